@@ -1,0 +1,4 @@
+pub mod Answering
+pub mod Breaks
+pub mod Joins
+pub mod Numbers

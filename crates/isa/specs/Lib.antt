@@ -1,0 +1,6 @@
+pub mod Kinds
+pub mod Layout
+pub mod Refusals
+pub mod Rules
+pub mod Table
+pub mod Words
