@@ -114,3 +114,32 @@ pub legal-within : (k : Kind) (w : Width) (f : Fields) → Within (rowOf k (ltb 
 legal-within k w f t e =
     unbroken (rowOf k (ltb 31 (f .d))) (plain (kindNumber k) (widthNumber w) (f .d) (f .a) (f .b) 0 (f .imm))
     record { width = rw e (t .width); d = t .d; a = t .a; b = t .b; imm = t .imm; home = refl }
+
+unbroken-parts : (p q s : Bool) → _≡_ {A = ℕ} (cond p 12 (cond q 13 (cond s 14 0))) 0 → (p ≡ false) × (q ≡ false) × (s ≡ false)
+unbroken-parts true q s e = absurd (omega arith)
+unbroken-parts false true s e = absurd (omega arith)
+unbroken-parts false false true e = absurd (omega arith)
+unbroken-parts false false false e = (refl, refl, refl)
+
+neither : (used out : Bool) → (used && out) ≡ false → (not used && out) ≡ false → out ≡ false
+neither true out p q = p
+neither false out p q = q
+
+-- fields that break no rule are within their spans
+pub within-unbroken : (r : Row) (f : Fields) → broken false r f ≡ 0 → Within r f
+within-unbroken r f e =
+    let u = unbroken-parts (outside (r .width) (f .width)) (badRegister r f) (badRest r f) e in
+    let m = or-parts (misses (r .d) (f .d)) _ (u .1) in
+    let m′ = or-parts (misses (r .a) (f .a)) _ (m .1) in
+    let s = or-parts (strays (r .d) (f .d)) _ (u .2) in
+    let s′ = or-parts (strays (r .a) (f .a)) _ (s .1) in
+    let s″ = or-parts (strays (r .b) (f .b)) _ (s′ .1) in
+    let i = or-parts (outside (r .imm) (f .imm)) _ (s″ .1) in
+    record {
+      width = u .0;
+      d = neither (isUsed (r .d)) _ (m .0) (s .0);
+      a = neither (isUsed (r .a)) _ (m′ .0) (s′ .0);
+      b = neither (isUsed (r .b)) _ (m′ .1) (s″ .0);
+      imm = i .0;
+      home = i .1;
+    }

@@ -72,6 +72,14 @@ width-number n w e = let h = entry-number widthNumber widths 0 n w refl e in ome
 pub width-past : (n : ℕ) → widthAt n ≡ None → 2 < n
 width-past n e = let h = entry-past widths n e in omega arith
 
+-- a number up to 2 is a width's
+pub width-some : (n : ℕ) → n ≤ 2 → (w : Width) × (widthAt n ≡ Some w)
+width-some n h = go (widthAt n) refl
+  where
+    go : (o : Option Width) → widthAt n ≡ o → (w : Width) × (widthAt n ≡ Some w)
+    go (Some w) e = (w, e)
+    go None e = absurd (omega (arith, width-past n e, h))
+
 pub same-kind : (k l : Kind) → kindNumber k ≡ kindNumber l → k ≡ l
 same-kind k l e = let p : Some k ≡ Some l = sym (kind-at k) ∙ ap kindAt e ∙ kind-at l in cc
 

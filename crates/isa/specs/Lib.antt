@@ -3,4 +3,5 @@ pub mod Layout
 pub mod Refusals
 pub mod Rules
 pub mod Table
+pub mod Theorems
 pub mod Words

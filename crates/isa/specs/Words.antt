@@ -29,8 +29,12 @@ fieldsFrom xs =
 abbrev pub fieldsIn : ℕ → Fields
 fieldsIn w = fieldsFrom (parted layout w)
 
+-- the thirteen zero bits
+abbrev pub zerosFrom : List ℕ → ℕ
+zerosFrom xs = getD xs 6 0
+
 abbrev pub zerosIn : ℕ → ℕ
-zerosIn w = getD (parted layout w) 6 0
+zerosIn w = zerosFrom (parted layout w)
 
 abbrev pub fieldsOf : Instruction → Fields
 fieldsOf i = plain (kindNumber (i .kind)) (widthNumber (i .width)) (i .d) (i .a) (i .b) (i .home) (i .imm)

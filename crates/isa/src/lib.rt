@@ -6,3 +6,4 @@ pub mod instruction;
 pub mod kind;
 pub mod refusal;
 pub mod table;
+pub mod theorems;
