@@ -1,5 +1,6 @@
 pub mod Kinds
 pub mod Layout
+pub mod Mnemonics
 pub mod Refusals
 pub mod Rules
 pub mod Table

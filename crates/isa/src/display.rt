@@ -1,11 +1,15 @@
 // Instructions as text, in the form that the parser reads back.
+ghost use mathlib.Core.Path.{_≡_};
+ghost use Rattle.isa.specs.Mnemonics.{mnemonicOf};
 use crate::instruction::Instruction;
 use crate::kind::Kind;
 use std::fmt;
 
 impl Kind {
     // The name by which text calls the kind.
-    pub fn mnemonic(self) -> &'static str {
+    pub fn mnemonic(self) -> &'static str
+        ensures { λ r. ⌜ now r ≡ mnemonicOf self ⌝ }
+    {
         match self {
             Kind::Halt => "halt",
             Kind::Const => "const",

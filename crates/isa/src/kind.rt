@@ -86,7 +86,11 @@ impl Width {
     pub fn number(self) -> u64
         ensures { λ r. ⌜ r ≡ widthNumber self ⌝ }
     {
-        self as u64
+        match self {
+            Width::One => 0,
+            Width::Two => 1,
+            Width::Four => 2,
+        }
     }
 
     pub fn numbered(n: u64) -> Option<Width>

@@ -5,5 +5,5 @@ pub mod fields;
 pub mod instruction;
 pub mod kind;
 pub mod refusal;
-pub mod table;
+mod table;
 pub mod theorems;

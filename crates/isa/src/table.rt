@@ -11,7 +11,7 @@ use crate::refusal::WordRefusal;
 
 // The numbers that a field may hold, from `low` to `high`; 0 to 0 where the kind does not use the field.
 #[derive(Clone, Copy)]
-pub struct Span {
+pub(crate) struct Span {
     pub low: u16,
     pub high: u16,
 }
@@ -38,14 +38,14 @@ const NUMBER: Span = Span {
 const HOMES: u64 = 1023;
 
 impl Span {
-    pub fn outside(self, x: u64) -> bool
+    pub(crate) fn outside(self, x: u64) -> bool
         ensures { λ r. ⌜ r ≡ outside self x ⌝ }
     {
         x < u64::from(self.low) || x > u64::from(self.high)
     }
 
     // The kind uses the field, and x is outside its span.
-    pub fn misses(self, x: u64) -> bool
+    pub(crate) fn misses(self, x: u64) -> bool
         ensures { λ r. ⌜ r ≡ misses self x ⌝ }
     {
         self.high > 0 && self.outside(x)
@@ -54,7 +54,7 @@ impl Span {
 
 // One row of the table.
 #[derive(Clone, Copy)]
-pub struct Row {
+pub(crate) struct Row {
     pub width: Span,
     pub d: Span,
     pub a: Span,
@@ -63,7 +63,7 @@ pub struct Row {
 }
 
 impl Row {
-    pub fn new(width: Span, d: Span, a: Span, b: Span, imm: Span) -> Row
+    pub(crate) fn new(width: Span, d: Span, a: Span, b: Span, imm: Span) -> Row
         ensures { λ r. ⌜ r ≡ rowFrom width d a b imm ⌝ }
     {
         Row {
@@ -76,7 +76,7 @@ impl Row {
     }
 
     // Every field is in its span and home is a place: the one test that nearly every word passes.
-    pub fn fits(self, f: &Fields) -> bool
+    pub(crate) fn fits(self, f: &Fields) -> bool
         ensures { λ r. ⌜ r ≡ fits self (now (f .entry)) ⌝ }
     {
         !self.width.outside(f.width)
@@ -88,7 +88,7 @@ impl Row {
     }
 
     // The first rule that is broken by fields which do not fit, or whose word has a bit where zeros belong.
-    pub fn refusal(self, f: &Fields) -> WordRefusal
+    pub(crate) fn refusal(self, f: &Fields) -> WordRefusal
         ensures { λ r. ⌜ refusalNumber r ≡ broken true self (now (f .entry)) ⌝ }
     {
         if self.width.outside(f.width) {
@@ -118,7 +118,7 @@ impl Kind {
     }
 
     // The kind's row, where `shadow` says that d is above 31.
-    pub fn row(self, shadow: bool) -> Row
+    pub(crate) fn row(self, shadow: bool) -> Row
         ensures { λ r. ⌜ r ≡ rowOf self shadow ⌝ }
     {
         let from = operand(shadow);

@@ -5,6 +5,7 @@ ghost use Rattle.isa.specs.Theorems.{One-to-one, Composes-exactly, numbered, r
 use crate::codec::compose;
 use crate::codec::pack;
 use crate::codec::unpack;
+use crate::fields::Fields;
 use crate::instruction::Instruction;
 use crate::refusal::WordRefusal;
 
@@ -31,5 +32,6 @@ pub fn recompose(i: &Instruction) -> Result<Instruction, WordRefusal>
     ensures same { λ r. ⌜ r ≡ Ok (now (i .entry)) ⌝ }
     ensures all { λ _. ⌜ Composes-exactly ⌝ }
 {
-    compose(&i.fields())
+    let f: Fields = i.fields();
+    compose(&f)
 }

@@ -6,6 +6,6 @@ use Rattle.isa.proofs.theorems.recompose.Needs as need
 pub returns : need.returns
 returns c =
     record {
-      same = answers (c .compose .result) (c .args .i .now) (c .compose .ensures ∙ ap composed (c .fields .ensures) ∙ composes-exactly .accepts (c .args .i .now));
+      same = answers (c .compose .result) (c .args .i .now) (c .compose .ensures ∙ ap composed (c .fields-f .ensures) ∙ composes-exactly .accepts (c .args .i .now));
       all = composes-exactly;
     }
