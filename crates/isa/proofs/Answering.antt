@@ -1,20 +1,19 @@
 -- What reading fields answers, by the first rule that they break.
-use mathlib.Core.Path.{_≡_, refl, sym, ap, _∙_}
-use mathlib.Core.Bool.{Bool, true, false, cond}
+use mathlib.Core.Path.{_≡_, _∙_}
+use mathlib.Core.Bool.{Bool}
 use mathlib.Core.Logic.{inl, inr}
 use Prim.Native.Nat.{ℕ, _<_}
 use native.Mathlib.Omega.{arith}
 use lib.Dec.{ltb, eqb}
 use Rattle.std.proofs.shelf.Tests.{cases-bool, cond-true, cond-false, eqb-true, eqb-false, ne-eqb}
 use Rattle.std.specs.declared.option.Option.the-variants.{Some}
-use Rattle.std.specs.declared.result.Result.{Result}
 use Rattle.std.specs.declared.result.Result.the-variants.{Ok, Err}
 use Rattle.isa.specs.declared.kind.Kind.{Kind}
 use Rattle.isa.specs.declared.fields.Fields.{Fields}
 use Rattle.isa.specs.Kinds.{kindAt}
 use Rattle.isa.specs.Table.{rowOf}
 use Rattle.isa.specs.Rules.{broken, refusal}
-use Rattle.isa.specs.Words.{answer, readAs}
+use Rattle.isa.specs.Words.{answer}
 
 pub answer-err : (n m : ℕ) (f : Fields) → n ≡ m → 0 < n → Err m ≡ answer n f
 answer-err n m f e h = rw (ne-eqb n 0 (λ z. omega arith), e)

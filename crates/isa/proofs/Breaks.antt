@@ -1,10 +1,10 @@
 -- What the rules and the table say together: fields that fit break no rule, and the others break the first that is answered.
-use mathlib.Core.Path.{_≡_, refl, sym, ap, _∙_}
+use mathlib.Core.Path.{_≡_, refl}
 use mathlib.Core.Bool.{Bool, true, false, cond, _&&_, _||_, not}
 use Prim.Native.Nat.{ℕ, _≤_, _<_}
 use native.Mathlib.Omega.{arith}
 use lib.Dec.{ltb, leb}
-use Rattle.std.proofs.shelf.Tests.{or-parts, and-parts, ltb-true, leb-true, ltb-false, lt-ltb, le-ltb, not-true, or-right}
+use Rattle.std.proofs.shelf.Tests.{or-parts, and-parts, leb-true, ltb-false, lt-ltb, le-ltb, not-true, or-right}
 use Rattle.std.proofs.shelf.Ways.{tells}
 use Rattle.isa.specs.declared.kind.Kind.{Kind}
 use Rattle.isa.specs.declared.kind.Width.{Width}

@@ -1,7 +1,6 @@
 -- Each instruction has one word, and each accepted word one instruction: the layout's round trip, with no field named.
 use mathlib.Core.Path.{_≡_, refl, sym, ap, _∙_}
 use mathlib.Core.Bool.{Bool, true, false, not}
-use mathlib.Core.List.{List}
 use Prim.Native.Nat.{ℕ, _^_, _<_}
 use native.Mathlib.Nat.{mod-eq-of-lt}
 use native.Mathlib.Omega.{arith}
@@ -81,10 +80,15 @@ whole w f e =
 same-ok : (f g : Fields) → _≡_ {A = Result Fields ℕ} (Ok f) (Ok g) → f ≡ g
 same-ok f g e = cc
 
+-- an answer that has an instruction's fields is that instruction
+answers : (r : Result Instruction WordRefusal) (i : Instruction) → answered r ≡ Ok (fieldsOf i) → r ≡ Ok i
+answers (Ok j) i e = ap Ok (known j i (same-ok (fieldsOf j) (fieldsOf i) e))
+answers (Err e) i p = absurd (let z : _≡_ {A = ℕ} 0 1 = cc in omega arith)
+
 pub one-to-one : One-to-one
 one-to-one =
     record {
-      unpacks = unpacks;
+      unpacks = λ i r e. answers r i (e ∙ unpacks i);
       packs = packs;
       one-instruction = λ i j e. known i j (same-ok (fieldsOf i) (fieldsOf j) (sym (unpacks i) ∙ ap unpacked e ∙ unpacks j));
       one-word = λ v w h l f p q.
@@ -97,11 +101,6 @@ one-to-one =
 pub composes-exactly : Composes-exactly
 composes-exactly =
     record {
-      accepts = λ i. sym (answer-ok (refusal false (fieldsOf i)) (fieldsOf i) (fieldsOf i) (passes i) refl);
+      accepts = λ i r e. answers r i (e ∙ sym (answer-ok (refusal false (fieldsOf i)) (fieldsOf i) (fieldsOf i) (passes i) refl));
       only = λ f g e. let a = ok-answer (refusal false f) f g (sym e) in (a .1, instruction-of f (a .0));
     }
-
--- an answer that has an instruction's fields is that instruction
-pub answers : (r : Result Instruction WordRefusal) (i : Instruction) → answered r ≡ Ok (fieldsOf i) → r ≡ Ok i
-answers (Ok j) i e = ap Ok (known j i (same-ok (fieldsOf j) (fieldsOf i) e))
-answers (Err e) i p = absurd (let z : _≡_ {A = ℕ} 0 1 = cc in omega arith)

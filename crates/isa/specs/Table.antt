@@ -1,12 +1,11 @@
 -- The table of the kinds: which numbers each field may hold.
 use Prim.Native.Nat.{ℕ}
-use mathlib.Core.Bool.{Bool, true, false, cond, _&&_, _||_, not}
-use lib.Dec.{ltb, leb}
+use mathlib.Core.Bool.{Bool, cond, _&&_, _||_, not}
+use lib.Dec.{ltb}
 use Rattle.isa.specs.declared.kind.Kind.{Kind}
 use Rattle.isa.specs.declared.kind.Kind.the-variants.{Halt, Const, Add, Sub, And, Or, Xor, Shl, Shr, Below, Load, Store, Beq, Bne, Jump, Early, Check, Take, Reload, Back}
 use Rattle.isa.specs.declared.table.Span.{Span}
 use Rattle.isa.specs.declared.table.Row.{Row}
-use Rattle.isa.specs.Kinds.{kindNumber}
 
 abbrev pub span : ℕ → ℕ → Span
 span l h = record { low = l; high = h }
@@ -45,10 +44,6 @@ operand high = cond high any source
 
 abbrev pub operation : Bool → Row
 operation high = rowFrom none result (operand high) (operand high) none
-
--- kinds 2 to 9
-abbrev pub isOperation : Kind → Bool
-isOperation k = leb 2 (kindNumber k) && leb (kindNumber k) 9
 
 -- width, d, a, b and imm of each kind; the flag says that d is above 31
 abbrev pub rowOf : Kind → Bool → Row

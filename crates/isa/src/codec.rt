@@ -5,6 +5,7 @@ ghost use lib.Dec.{ltb};
 ghost use Rattle.isa.specs.Kinds.{kindNumber, widthNumber};
 ghost use Rattle.isa.specs.Rules.{fits};
 ghost use Rattle.isa.specs.Table.{rowOf};
+ghost use Rattle.isa.specs.Theorems.{One-to-one, Composes-exactly};
 ghost use Rattle.isa.specs.Words.{fieldsOf, packed, fieldsIn, composed, unpacked, answered, readAs};
 use crate::fields::Fields;
 use crate::instruction::Instruction;
@@ -70,8 +71,17 @@ pub fn compose(f: &Fields) -> Result<Instruction, WordRefusal>
     read(f, false)
 }
 
-// The word of an instruction.
+// The word of an instruction. Each instruction has one word, and each accepted word one instruction; composing accepts
+// the fields of every instruction and no others.
 pub fn pack(i: &Instruction) -> u64
+    ensures word { λ r. ⌜ r ≡ packed (now (i .entry)) ⌝ }
+    ensures laws { λ _. ⌜ One-to-one ⌝ ∗ ⌜ Composes-exactly ⌝ }
+{
+    join(i)
+}
+
+// The fields at their places in the word.
+fn join(i: &Instruction) -> u64
     ensures { λ r. ⌜ r ≡ packed (now (i .entry)) ⌝ }
 {
     ((i.kind as u64) << 59)

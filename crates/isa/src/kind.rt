@@ -1,6 +1,5 @@
 // The kinds of an instruction and the widths of an access, with their numbers in a word.
 ghost use mathlib.Core.Path.{_≡_};
-ghost use lib.Dec.{eqb};
 ghost use Rattle.isa.specs.Kinds.{kindNumber, kindAt, widthNumber, widthAt, widthBytes};
 
 #[derive(Clone, Copy, Debug)]
@@ -62,17 +61,6 @@ impl Kind {
         }
     }
 }
-
-// A derived `==` on so many variants tells a proof nothing; this one compares the numbers.
-pub impl PartialEq<Kind> for Kind as KindPartialEq {
-    ghost equals = { λ x y r. r ≡ eqb (kindNumber x) (kindNumber y) };
-
-    fn eq(&self, other: &Kind) -> bool {
-        self.number() == other.number()
-    }
-}
-
-pub impl Eq for Kind as KindEq {}
 
 // How many bytes an access touches.
 #[derive(Clone, Copy, PartialEq, Eq, Debug)]

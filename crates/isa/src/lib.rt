@@ -6,4 +6,3 @@ pub mod instruction;
 pub mod kind;
 pub mod refusal;
 mod table;
-pub mod theorems;

@@ -1,8 +1,7 @@
 // The table of the kinds: which numbers each field may hold.
 ghost use mathlib.Core.Path.{_≡_};
 ghost use mathlib.Core.Bool.{true};
-ghost use lib.Dec.{leb};
-ghost use Rattle.isa.specs.Table.{rowOf, rowFrom, outside, misses, operand, isOperation};
+ghost use Rattle.isa.specs.Table.{rowOf, rowFrom, outside, misses, operand};
 ghost use Rattle.isa.specs.Rules.{fits, broken};
 ghost use Rattle.isa.specs.Refusals.{refusalNumber};
 use crate::fields::Fields;
@@ -109,14 +108,6 @@ fn operand(shadow: bool) -> Span
 }
 
 impl Kind {
-    // Kinds 2 to 9, which compute d from a and b.
-    pub fn is_operation(self) -> bool
-        ensures { λ r. ⌜ r ≡ isOperation self ⌝ }
-    {
-        let n = self.number();
-        n >= 2 && n <= 9
-    }
-
     // The kind's row, where `shadow` says that d is above 31.
     pub(crate) fn row(self, shadow: bool) -> Row
         ensures { λ r. ⌜ r ≡ rowOf self shadow ⌝ }
