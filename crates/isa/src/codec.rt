@@ -98,7 +98,7 @@ fn split(word: u64) -> Fields
     ensures { λ r. ⌜ r ≡ fieldsIn word ⌝ }
 {
     Fields {
-        kind: (word >> 59) % 32,
+        kind: word >> 59,
         width: (word >> 57) % 4,
         d: (word >> 51) % 64,
         a: (word >> 45) % 64,
