@@ -4,5 +4,6 @@ pub mod Mnemonics
 pub mod Refusals
 pub mod Rules
 pub mod Table
+pub mod Texts
 pub mod Theorems
 pub mod Words

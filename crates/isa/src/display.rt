@@ -1,6 +1,8 @@
 // Instructions as text, in the form that the parser reads back.
 ghost use mathlib.Core.Path.{_≡_};
+ghost use Rattle.std.specs.declared.option.Option.the-variants.{Some};
 ghost use Rattle.isa.specs.Mnemonics.{mnemonicOf};
+ghost use Rattle.isa.specs.Texts.{addressText, homeText, instructionText, operandsText, registerText};
 use crate::instruction::Instruction;
 use crate::kind::Kind;
 use std::fmt;
@@ -43,6 +45,8 @@ struct Address {
 }
 
 impl fmt::Display for Address as AddressDisplay {
+    ghost shown = { λ x. Some (addressText (x .base) (x .offset)) };
+
     fn fmt<W: fmt::Write>(&self, f: &mut fmt::Formatter<W>) -> fmt::Result {
         let base = self.base;
         let offset = self.offset;
@@ -57,41 +61,75 @@ impl fmt::Display for Address as AddressDisplay {
     }
 }
 
-impl Instruction {
-    fn operands<W: fmt::Write>(&self, f: &mut fmt::Formatter<W>) -> fmt::Result {
-        let width = self.width.bytes();
-        let d = self.d;
-        let a = self.a;
-        let b = self.b;
-        let imm = self.imm;
+// A register with the blank before it.
+#[derive(Clone, Copy)]
+struct Register(u8);
+
+impl fmt::Display for Register as RegisterDisplay {
+    ghost shown = { λ x. Some (registerText (x .0)) };
+
+    fn fmt<W: fmt::Write>(&self, f: &mut fmt::Formatter<W>) -> fmt::Result {
+        let number = self.0;
+        write!(f, " r{number}")
+    }
+}
+
+// The home where it is not 0, with the blank before it.
+#[derive(Clone, Copy)]
+struct Home(u16);
+
+impl fmt::Display for Home as HomeDisplay {
+    ghost shown = { λ x. Some (homeText (x .0)) };
+
+    fn fmt<W: fmt::Write>(&self, f: &mut fmt::Formatter<W>) -> fmt::Result {
+        let place = self.0;
+        if place == 0 {
+            return Ok(());
+        }
+        write!(f, " @{place}")
+    }
+}
+
+// The operands, each with the blank before it.
+#[derive(Clone, Copy)]
+struct Operands(Instruction);
+
+impl fmt::Display for Operands as OperandsDisplay {
+    ghost shown = { λ x. Some (operandsText (x .0 .kind) (x .0)) };
+
+    fn fmt<W: fmt::Write>(&self, f: &mut fmt::Formatter<W>) -> fmt::Result {
+        let i = self.0;
+        let width = i.width.bytes();
+        let d = Register(i.d);
+        let a = Register(i.a);
+        let b = Register(i.b);
+        let imm = i.imm;
         let address = Address {
-            base: a,
+            base: i.a,
             offset: imm,
         };
-        match self.kind {
+        match i.kind {
             Kind::Halt => Ok(()),
-            Kind::Const => write!(f, " r{d} {imm}"),
-            Kind::Load | Kind::Early => write!(f, " {width} r{d} {address}"),
-            Kind::Store => write!(f, " {width} {address} r{b}"),
-            Kind::Beq | Kind::Bne => write!(f, " r{a} r{b} {imm}"),
+            Kind::Const => write!(f, "{d} {imm}"),
+            Kind::Load | Kind::Early => write!(f, " {width}{d} {address}"),
+            Kind::Store => write!(f, " {width} {address}{b}"),
+            Kind::Beq | Kind::Bne => write!(f, "{a}{b} {imm}"),
             Kind::Jump | Kind::Back => write!(f, " {imm}"),
-            Kind::Check => write!(f, " r{d} r{a} {imm}"),
-            Kind::Take => write!(f, " r{d} r{a}"),
-            Kind::Reload => write!(f, " {width} r{d} {address} r{b}"),
-            _ => write!(f, " r{d} r{a} r{b}"),
+            Kind::Check => write!(f, "{d}{a} {imm}"),
+            Kind::Take => write!(f, "{d}{a}"),
+            Kind::Reload => write!(f, " {width}{d} {address}{b}"),
+            _ => write!(f, "{d}{a}{b}"),
         }
     }
 }
 
 pub impl fmt::Display for Instruction as InstructionDisplay {
+    ghost shown = { λ i. Some (instructionText i) };
+
     fn fmt<W: fmt::Write>(&self, f: &mut fmt::Formatter<W>) -> fmt::Result {
         let mnemonic = self.kind.mnemonic();
-        write!(f, "{mnemonic}")?;
-        self.operands(f)?;
-        let home = self.home;
-        if home == 0 {
-            return Ok(());
-        }
-        write!(f, " @{home}")
+        let operands = Operands(*self);
+        let home = Home(self.home);
+        write!(f, "{mnemonic}{operands}{home}")
     }
 }

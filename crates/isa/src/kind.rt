@@ -71,7 +71,7 @@ pub enum Width {
 }
 
 impl Width {
-    pub fn number(self) -> u64
+    pub(crate) fn number(self) -> u64
         ensures { λ r. ⌜ r ≡ widthNumber self ⌝ }
     {
         match self {
@@ -81,7 +81,7 @@ impl Width {
         }
     }
 
-    pub fn numbered(n: u64) -> Option<Width>
+    pub(crate) fn numbered(n: u64) -> Option<Width>
         ensures { λ r. ⌜ r ≡ widthAt n ⌝ }
     {
         match n {
