@@ -1,0 +1,11 @@
+// The text of instructions: programs and listings into words, and words into listings.
+pub mod assembler;
+mod drafts;
+mod form;
+mod line;
+pub mod listing;
+mod name;
+pub mod numeral;
+mod operand;
+pub mod problem;
+mod statement;
