@@ -34,6 +34,7 @@ becomes-all xs i ns past all = let P : List Drafted → Type 0 = λ l. AllBecome
 -- the word of an instruction that goes to a label
 pub becomes-branch : {E : Type 0} (r : Result ℕ E) (x : Draft) (f : Fields) (l : RefT (List ℕ)) (p : ℕ) → x ≡ Branch f l
     → okPart r ≡ wordFor (fieldsWith (f .kind) (f .width) (f .d) (f .a) (f .b) (f .home) p) → made r (λ n. Becomes x n)
+unfolding Becomes
 becomes-branch (Ok n) x f l p e h = rw e (p, h)
 becomes-branch (Err y) x f l p e h = tt
 

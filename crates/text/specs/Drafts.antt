@@ -10,7 +10,7 @@ use Rattle.text.specs.Forms.{fieldsWith, wordFor}
 use Rattle.text.specs.Lines.{Given}
 
 -- a word becomes itself, and an instruction that goes to a label its word with some place as the target
-abbrev pub Becomes : Draft → ℕ → Type 0
+unfoldable pub Becomes : Draft → ℕ → Type 0
 Becomes (Word w) n = n ≡ w
 Becomes (Branch f l) n = (p : ℕ) × (Some n ≡ wordFor (fieldsWith (f .kind) (f .width) (f .d) (f .a) (f .b) (f .home) p))
 

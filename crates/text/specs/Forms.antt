@@ -75,5 +75,5 @@ wordBy (Ok f) = Some (joined layout (parts f))
 wordBy (Err e) = None
 
 -- the word of these fields, where no rule is broken
-abbrev pub wordFor : Fields → Option ℕ
+unfoldable pub wordFor : Fields → Option ℕ
 wordFor f = wordBy (composed f)

@@ -73,7 +73,7 @@ ListedLine place first [] d = ⊥
 ListedLine place first (w ∷ ws) d = (Some place ≡ okPart (capped (numberIn first))) × Packed w d
 
 -- what a line gives at a place: a packed word where it begins with one, and else a listing's word or an instruction
-abbrev pub Given : ℕ → List ℕ → List (List ℕ) → Draft → Type 0
+unfoldable pub Given : ℕ → List ℕ → List (List ℕ) → Draft → Type 0
 Given place first rest d =
     When (isSome (hexDigits first)) (Packed first d)
     (ListedLine place first rest d ⊎ ((k : Kind) × (mnemonicOf k ≡ first) × (Some (view d) ≡ drawn k rest)))

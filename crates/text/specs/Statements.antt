@@ -54,7 +54,7 @@ drafted f None = mapped inl (wordFor f)
 drafted f (Some l) = Some (inr (f, l))
 
 -- what a kind gives with the words after its mnemonic: its word, or its fields and the label
-abbrev pub drawn : Kind → List (List ℕ) → Option (ℕ ⊎ (Fields × List ℕ))
+unfoldable pub drawn : Kind → List (List ℕ) → Option (ℕ ⊎ (Fields × List ℕ))
 drawn k ws = bound (homeSplit ws) (λ p. bound (fieldsRead (formOf k) (startOf k (p .0)) (p .1)) (λ f. drafted f (labelIn k (p .1))))
 
 -- a draft in these words
