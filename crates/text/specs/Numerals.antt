@@ -1,9 +1,9 @@
 -- The number that digits write in a base, and what a 64-bit reader answers of it.
 use Prim.Native.Nat.{ℕ, _+_, _*_, _^_}
-use mathlib.Core.Bool.{Bool, true, false, cond, _&&_}
+use mathlib.Core.Bool.{Bool, true, cond, _&&_}
 use mathlib.Core.List.{List, [], _∷_}
 use lib.Dec.{eqb, ltb}
-use lib.ListN.{length, getD, drop}
+use lib.ListN.{length}
 use Rattle.std.specs.Text.{digitValue}
 use Rattle.std.specs.Reads.{value}
 use Rattle.std.specs.declared.option.Option.{Option}

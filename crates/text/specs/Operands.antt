@@ -1,8 +1,8 @@
 -- What the operands of an instruction say: none where the text is no such operand.
-use Prim.Native.Nat.{ℕ, _+_, _-_, _%_}
-use mathlib.Core.Bool.{Bool, true, false, cond, _&&_, _||_, not}
+use Prim.Native.Nat.{ℕ, _-_, _%_}
+use mathlib.Core.Bool.{Bool, cond, _||_, not}
 use mathlib.Core.List.{List, [], _∷_, reverse}
-use lib.Dec.{eqb, ltb, leb}
+use lib.Dec.{eqb, leb}
 use lib.ListN.{take, drop}
 use Rattle.std.specs.Options.{mapped}
 use Rattle.std.specs.shelf.Lists.{leading}
@@ -11,7 +11,7 @@ use Rattle.std.specs.declared.option.Option.the-variants.{Some, None}
 use Rattle.std.specs.declared.result.Result.{Result}
 use Rattle.std.specs.declared.result.Result.the-variants.{Ok, Err}
 use Rattle.text.specs.declared.numeral.Misread.{Misread}
-use Rattle.text.specs.declared.numeral.Misread.the-variants.{NoNumber, TooLarge}
+use Rattle.text.specs.declared.numeral.Misread.the-variants.{TooLarge}
 use Rattle.text.specs.declared.operand.Address.{Address}
 use Rattle.text.specs.Names.{isName}
 use Rattle.text.specs.Numerals.{afterByte, numeralIn, numberIn}

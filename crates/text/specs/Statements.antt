@@ -1,6 +1,6 @@
 -- What the words of an instruction give: a word, or the fields and the label that it goes to.
 use Prim.Native.Nat.{ℕ}
-use mathlib.Core.Bool.{Bool, true, false, cond, _&&_}
+use mathlib.Core.Bool.{Bool, cond, _&&_}
 use mathlib.Core.List.{List, [], _∷_, reverse}
 use mathlib.Core.Logic.{_⊎_, inl, inr}
 use denote.Ref.{now}

@@ -29,7 +29,7 @@ const MOST_LABELS: usize = 16384;
 
 // A program of at most `most` instructions, line by line.
 #[derive(Drop)]
-pub struct Assembler<'a> {
+pub(crate) struct Assembler<'a> {
     heap: Global,
     most: usize,
     drafts: Vec<Drafted<'a>>,
@@ -47,7 +47,7 @@ fn words_of<'a>(heap: Global, text: &'a str) -> Result<Vec<&'a str>, AllocError>
 }
 
 impl<'a> Assembler<'a> {
-    pub fn new(heap: Global, most: usize) -> Assembler<'a>
+    pub(crate) fn new(heap: Global, most: usize) -> Assembler<'a>
         ensures most { λ r. ⌜ r .most ≡ most ⌝ }
         ensures empty { λ r. ⌜ vec-len (r .drafts) ≡ 0 ⌝ }
     {
@@ -60,7 +60,7 @@ impl<'a> Assembler<'a> {
     }
 
     // The next line of the program, which messages call by its number.
-    pub fn line(&mut self, number: usize, text: &'a str) -> Result<(), TextError<'a>>
+    pub(crate) fn line(&mut self, number: usize, text: &'a str) -> Result<(), TextError<'a>>
         ensures most { λ _. ⌜ now (self .exit) .most ≡ now (self .entry) .most ⌝ }
         ensures cases { λ r. ⌜ Cases r (λ _. Grown (vec-len (now (self .entry) .drafts)) (vec-len (now (self .exit) .drafts))) (λ e. (vec-len (now (self .exit) .drafts) ≡ vec-len (now (self .entry) .drafts)) × (e .line ≡ number)) ⌝ }
     {
@@ -136,7 +136,7 @@ impl<'a> Assembler<'a> {
     }
 
     // The words of the program, with each label's place in the instructions that go to it.
-    pub fn finish(self) -> Result<Vec<u64>, TextError<'a>>
+    pub(crate) fn finish(self) -> Result<Vec<u64>, TextError<'a>>
         ensures { λ r. ⌜ made r (λ v. (vec-len v ≡ vec-len (self .entry .drafts)) × AllBecome (vec-items (self .entry .drafts)) (vec-items v)) ⌝ }
     {
         let mut words = Vec::new(self.heap);

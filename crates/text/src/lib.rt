@@ -5,7 +5,7 @@ mod form;
 mod line;
 pub mod listing;
 mod name;
-pub mod numeral;
+mod numeral;
 mod operand;
 pub mod problem;
 mod statement;

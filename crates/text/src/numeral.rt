@@ -1,13 +1,13 @@
 // Numbers as text writes them: decimal digits, or 0x and hex digits, of any length.
 ghost use mathlib.Core.Path.{_≡_};
-ghost use Prim.Native.Nat.{_+_, _*_, _^_, _<_, _≤_};
+ghost use Prim.Native.Nat.{_+_, _*_, _<_, _≤_};
 ghost use Rattle.std.specs.Options.{mapped};
 ghost use Rattle.std.specs.Text.{digitValue};
 ghost use Rattle.text.specs.Numerals.{afterByte, capped, hexDigits, kept, numberIn, numeralIn};
 
 // Why a text gives no number.
-#[derive(Clone, Copy, PartialEq, Eq, Debug)]
-pub enum Misread {
+#[derive(Clone, Copy)]
+pub(crate) enum Misread {
     NoNumber,
     TooLarge,
 }
@@ -66,7 +66,7 @@ pub(crate) fn hex_digits(word: &[u8]) -> Option<&[u8]>
 }
 
 // The number that a word writes, decimal or with 0x in front.
-pub fn number(word: &[u8]) -> Result<u64, Misread>
+pub(crate) fn number(word: &[u8]) -> Result<u64, Misread>
     ensures { λ r. ⌜ r ≡ capped (numberIn (now (word .entry))) ⌝ }
 {
     match hex_digits(word) {

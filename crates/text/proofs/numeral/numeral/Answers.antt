@@ -1,5 +1,5 @@
-use mathlib.Core.Path.{_≡_, refl, sym, _∙_, ap}
-use mathlib.Core.Bool.{true, false}
+use mathlib.Core.Path.{_≡_, sym, _∙_, ap}
+use mathlib.Core.Bool.{true}
 use mathlib.Core.List.{[]}
 use Prim.Native.Nat.{_+_, _*_, _≤_, _<_}
 use native.Mathlib.Omega.{arith}
@@ -11,7 +11,7 @@ use Rattle.std.specs.declared.option.Option.the-variants.{Some}
 use Rattle.std.proofs.shelf.Ways.{tells}
 use Rattle.text.specs.declared.numeral.Misread.the-variants.{TooLarge}
 use Rattle.std.proofs.shelf.Lists.{drop-all}
-use Rattle.text.specs.Numerals.{allDigits, numeralIn, capped, held, kept}
+use Rattle.text.specs.Numerals.{allDigits, capped}
 use Rattle.text.proofs.Digits.{kept-held, allDigits-stops, allDigits-goes, value-goes, numeralIn-bad, numeralIn-good, capped-held}
 use Rattle.text.proofs.numeral.numeral.Needs as need
 

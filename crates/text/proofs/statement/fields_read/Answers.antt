@@ -1,6 +1,6 @@
-use mathlib.Core.Path.{_≡_, refl, sym, _∙_, ap}
+use mathlib.Core.Path.{refl, sym, _∙_, ap}
 use mathlib.Core.List.{List, [], map}
-use Prim.Native.Nat.{ℕ, _<_}
+use Prim.Native.Nat.{ℕ}
 use native.Mathlib.Omega.{arith}
 use denote.Ref.{RefT, now}
 use lib.ListN.{length}
@@ -8,7 +8,7 @@ use Rattle.std.specs.Results.{okPart}
 use Rattle.std.proofs.shelf.Lists.{length-map}
 use Rattle.std.proofs.shelf.Results.{err-from-errBy}
 use Rattle.text.specs.declared.form.Slot.the-variants.{D}
-use Rattle.text.specs.Forms.{fieldsRead, formOf, startOf}
+use Rattle.text.specs.Forms.{formOf, startOf}
 use Rattle.text.proofs.Readings.{fieldsRead-few, fieldsRead-many, fieldsRead-goes, fieldsRead-stops, fieldsRead-ends, fieldsRead-of}
 use Rattle.text.proofs.statement.fields_read.Needs as need
 
