@@ -5,7 +5,7 @@ ghost use Rattle.isa.specs.Rules.{legal};
 use crate::kind::Kind;
 use crate::kind::Width;
 
-// Of an access or a number, `imm` is the raw 16 bits; `home` is the source place that the instruction came from.
+// `imm` is the raw 16 bits, be it a number, an offset or a position; `home` is the source place that the instruction came from.
 #[derive(Clone, Copy)]
 pub struct Instruction {
     pub kind: Kind,
