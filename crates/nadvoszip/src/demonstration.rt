@@ -4,13 +4,12 @@ ghost use Rattle.isa.specs.Words.{unpacked};
 ghost use Rattle.std.specs.Results.{isOk};
 use crate::failure::Failure;
 use crate::failure::FailureFromFmtError;
+use crate::output::listing;
 use crate::output::words;
 use isa::codec::pack;
 use isa::codec::unpack;
 use std::alloc::Global;
 use std::fmt::Write;
-use text::listing::Listed;
-use text::listing::ListedDisplay;
 
 const ORDERS: &str = "\
 # An order controller looks at three order records and has each order cut once.
@@ -52,20 +51,17 @@ fn count_back(words: &[u64]) -> usize {
 
 pub fn report(heap: Global) -> Result<String, Failure> {
     let words = words(heap, ORDERS)?;
+    let listing = listing(heap, words.as_slice())?;
+    let count = words.len();
+    let same = count_back(words.as_slice());
     let mut lines = String::new(heap);
     write!(
         lines,
-        "The program as text:\n\n{ORDERS}\nPacked, unpacked and listed:\n\n"
+        "The program as text:\n\n{ORDERS}\nPacked, unpacked and listed:\n\n{listing}\n"
     )?;
-    for (place, word) in words.iter().enumerate() {
-        let listed = Listed { place, word: *word };
-        writeln!(lines, "{listed}")?;
-    }
-    let count = words.len();
-    let same = count_back(words.as_slice());
     writeln!(
         lines,
-        "\n{count} instructions packed; {same} of their words unpack to an instruction that packs to the same word."
+        "{count} instructions packed; {same} of their words unpack to an instruction that packs to the same word."
     )?;
     Ok(lines)
 }

@@ -12,19 +12,25 @@ use command::Command;
 use failure::Failure;
 use std::env;
 
+// The words of the program on standard input.
+fn program(rt: &LibcRuntime) -> Result<Vec<u64>, Failure> {
+    let bytes = input::read(rt)?;
+    output::words(rt.alloc(), input::as_text(bytes.as_slice())?)
+}
+
 fn run(rt: &LibcRuntime) -> Result<(), Failure> {
     let heap = rt.alloc();
     let arguments = env::args(rt)?;
     match command::chosen(heap, arguments)? {
         Command::Help(page) => print!(rt, "{page}")?,
         Command::Pack => {
-            let bytes = input::read(rt)?;
-            let lines = output::packed(heap, input::as_text(bytes.as_slice())?)?;
+            let words = program(rt)?;
+            let lines = output::packed(heap, words.as_slice())?;
             print!(rt, "{lines}")?;
         }
         Command::List => {
-            let bytes = input::read(rt)?;
-            let lines = output::listing(heap, input::as_text(bytes.as_slice())?)?;
+            let words = program(rt)?;
+            let lines = output::listing(heap, words.as_slice())?;
             print!(rt, "{lines}")?;
         }
         Command::Demonstrate => {

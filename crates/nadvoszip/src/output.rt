@@ -18,19 +18,17 @@ pub fn words(heap: Global, text: &str) -> Result<Vec<u64>, Failure> {
     }
 }
 
-// A line for each word of a program.
-pub fn packed(heap: Global, text: &str) -> Result<String, Failure> {
-    let words = words(heap, text)?;
+// A line for each word.
+pub fn packed(heap: Global, words: &[u64]) -> Result<String, Failure> {
     let mut lines = String::new(heap);
-    for word in words.iter() {
+    for word in words {
         writeln!(lines, "0x{word:016x}")?;
     }
     Ok(lines)
 }
 
-// A listing line for each word of a program.
-pub fn listing(heap: Global, text: &str) -> Result<String, Failure> {
-    let words = words(heap, text)?;
+// A listing line for each word.
+pub fn listing(heap: Global, words: &[u64]) -> Result<String, Failure> {
     let mut lines = String::new(heap);
     for (place, word) in words.iter().enumerate() {
         let listed = Listed { place, word: *word };
