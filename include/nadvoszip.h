@@ -2,8 +2,7 @@
  *
  * Link with libhost.a, which `rt staticlib host` writes to target/staticlib/. No call allocates, keeps a pointer or
  * fails in any other way than by the number that it answers. A slice is a pointer and its length in elements; it
- * must point at that many numbers, and where its length is 0 nothing is read or written through it. Two slices of
- * one call must not overlap.
+ * must point at that many numbers, and where its length is 0 nothing is read or written through it.
  */
 #ifndef NADVOSZIP_H
 #define NADVOSZIP_H

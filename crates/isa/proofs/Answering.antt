@@ -5,7 +5,7 @@ use mathlib.Core.Logic.{inl, inr}
 use Prim.Native.Nat.{ℕ, _<_}
 use native.Mathlib.Omega.{arith}
 use lib.Dec.{ltb, eqb}
-use Rattle.std.proofs.shelf.Tests.{cases-bool, cond-true, cond-false, eqb-true, eqb-false, ne-eqb}
+use Rattle.std.proofs.shelf.Tests.{cases-bool, cond-true, cond-false, eqb-true, ne-eqb}
 use Rattle.std.specs.declared.option.Option.the-variants.{Some}
 use Rattle.std.specs.declared.result.Result.the-variants.{Ok, Err}
 use Rattle.isa.specs.declared.kind.Kind.{Kind}
@@ -27,18 +27,6 @@ ok-answer n f g e =
     elim (cases-bool (eqb n 0)) [
       | inl t ↦ let p = e ∙ cond-true (eqb n 0) (Ok f) (Err n) t in (eqb-true n 0 t, cc)
       | inr t ↦ let p = e ∙ cond-false (eqb n 0) (Ok f) (Err n) t in absurd (let z : _≡_ {A = ℕ} 0 1 = cc in omega arith)
-    ]
-
--- an answer with a number is the first broken rule
-pub err-answer : (n m : ℕ) (f : Fields) → Err m ≡ answer n f → (n ≡ m) × (0 < n)
-err-answer n m f e =
-    elim (cases-bool (eqb n 0)) [
-      | inl t ↦ let p = e ∙ cond-true (eqb n 0) (Ok f) (Err n) t in absurd (let z : _≡_ {A = ℕ} 0 1 = cc in omega arith)
-      | inr t ↦
-          let p = e ∙ cond-false (eqb n 0) (Ok f) (Err n) t in
-          let q : n ≡ m = cc in
-          let d = eqb-false n 0 t in
-          (q, grind arith)
     ]
 
 -- the first broken rule of a known kind
