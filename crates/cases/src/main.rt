@@ -1,4 +1,6 @@
 // The worked cases: proved from the definitions as one list, and the same cases run.
+#![tactic(auto)]
+
 ghost use Rattle.std.specs.Prelude.{◌≡◌};
 ghost use Rattle.cases.specs.Worked.{worked_words, WorkedCases};
 

@@ -1,4 +1,6 @@
 // The C boundary: numbers and lent word slices. C keeps no promise, so nothing here asks for one.
+#![tactic(auto)]
+
 ghost use Rattle.std.specs.Prelude.{◌≡◌};
 ghost use Rattle.host.specs.Exports.{over, unpack_number, unpack_fields};
 

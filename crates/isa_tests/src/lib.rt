@@ -1,4 +1,6 @@
 // Tests of the word codec at both ends of every range and one past them, against a table of their own.
+#![tactic(auto)]
+
 #[cfg(test)]
 mod tests {
     use isa::codec::{compose, pack, unpack};

@@ -1,5 +1,7 @@
 // Tests of the memories: a table of accesses at every width and every fault, at the first and the last address and at
 // 2^32 - 1, against expected answers of their own.
+#![tactic(auto)]
+
 #[cfg(test)]
 mod tests {
     use memory::fault::Fault;

@@ -1,4 +1,6 @@
 // The command line: programs and listings from standard input into words or listings.
+#![tactic(auto)]
+
 mod command;
 mod demonstration;
 mod failure;

@@ -1,4 +1,6 @@
 // The text of instructions: programs and listings into words, and words into listings.
+#![tactic(auto)]
+
 pub mod assembler;
 mod drafts;
 mod form;

@@ -1,4 +1,6 @@
 // Tests of the text crate: words computed by hand from the layout, listings that pack again, and every message.
+#![tactic(auto)]
+
 #[cfg(test)]
 mod tests {
     use std::alloc::Global;

@@ -12,11 +12,11 @@ use Rattle.isa.proofs.Answering.{answer_err, answer_ok, refusal_at}
 use Rattle.isa.proofs.codec.read.Goals as goal
 use Rattle.isa.proofs.codec.read.Goals.{then-stray-via-then-stray, then-stray-via-else-stray+then-not-fits}
 
-pub returns-in-default-numbered : goal.returns-in-default-numbered
-returns-in-default-numbered c =
+pub returns-in_default-numbered : goal.returns-in_default-numbered
+returns-in_default-numbered c =
     let f = c.args.f.now in
     let k = c.in-Some.kind in
-    let p = past_widths (row_of k (ltb 31 f.d)) f.width (narrow k (ltb 31 f.d)) (width_past f.width (sym c.in-default-numbered.ensures)) in
+    let p = past_widths (row_of k (ltb 31 f.d)) f.width (narrow k (ltb 31 f.d)) (width_past f.width (sym c.in_default-numbered.ensures)) in
     let b : broken c.args.stray (row_of k (ltb 31 f.d)) f ≡ 12 = rw p in
     let n = refusal_at k c.args.stray f (sym c.in-Some.ensures) ∙ b in
     answer_err _ 12 f n (omega (arith, n))
