@@ -32,7 +32,7 @@ becomes_branch (Err y) x f l p e h = tt
 
 -- what a line's words add
 pub added_one : (place number : ℕ) (ws rest : List (Bor (List ℕ))) (w : Bor (List ℕ)) (xs ys : List Drafted) (d : Draft) → ws ≡ w ∷ rest
-    → Given place (now w) (map now rest) d → ys ≡ xs ++ record { draft = d; line = number } ∷ [] → Added place number (map now ws) xs ys
+    → Given place w.now (map (λ x. x.now) rest) d → ys ≡ xs ++ record { draft = d; line = number } ∷ [] → Added place number (map (λ x. x.now) ws) xs ys
 added_one place number ws rest w xs ys d e given more = rw e (d, given, more)
 
 pub added_none : (place number : ℕ) (ws : List (Bor (List ℕ))) (xs : List Drafted) → length ws ≡ 0 → Added place number (map (λ x. x.now) ws) xs xs

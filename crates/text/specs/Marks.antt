@@ -1,16 +1,15 @@
 -- The table of labels, with where each stands.
-use Rattle.std.specs.Prelude.{◌≡◌, ℕ, ◌<◌, List, Some}
+use Rattle.std.specs.Prelude.{ℕ, List, Some}
 use Rattle.std.specs.declared.cmp.Ordering.{Ordering}
 use Rattle.std.specs.Borrow.{Bor}
-use Rattle.std.specs.BTreeMap.{BTreeMap}
-use Rattle.std.specs.BTreeMap.{Updates}
-use Rattle.std.specs.Cmp.Lexicographic.{Lex}
-use Rattle.std.specs.Ordering.{MatchOrdering}
+use Rattle.std.specs.BTreeMap.{BTreeMap, Updates}
+use Rattle.std.specs.Cmp.Lexicographic.{slice_cmp}
+use Rattle.std.specs.Ordering.{nat_cmp}
 use Rattle.text.specs.declared.drafts.Mark.{Mark}
 
 -- the order of labels, by their bytes
-abbrev pub by_bytes : Bor (List ℕ) → Bor (List ℕ) → Ordering → Type 0
-by_bytes x y = Lex (λ a b r. MatchOrdering r (a < b) (a ≡ b) (b < a)) x.now y.now
+abbrev pub by_bytes : Bor (List ℕ) → Bor (List ℕ) → Ordering
+by_bytes x y = slice_cmp nat_cmp x.now y.now
 
 module _ where
   -- n is the table m with this place and line at the label

@@ -2,14 +2,14 @@ use Rattle.std.proofs.Common.{rules}
 use Rattle.text.specs.Lines.{Given}
 use Rattle.text.proofs.line.draft.Goals as goal
 
-pub returns-then-begins-hex : goal.returns-then-begins-hex
+pub returns-then-begins_hex : goal.returns-then-begins_hex
 unfolding Given
-returns-then-begins-hex c = search rules
+returns-then-begins_hex c = search rules
 
-pub returns-in-default : goal.returns-in-default
+pub returns-in_default : goal.returns-in_default
 unfolding Given
-returns-in-default c = search rules
+returns-in_default c = search rules
 
-pub returns-in-ok-listed-word-2 : goal.returns-in-ok-listed-word-2
+pub returns-in_ok-listed_word-in-Some : goal.returns-in_ok-listed_word-in-Some
 unfolding Given
-returns-in-ok-listed-word-2 c = search rules
+returns-in_ok-listed_word-in-Some c = search rules

@@ -35,7 +35,7 @@ returns c =
     let some : 0 < length c.args.digits.now = grind (arith, nat_tests) in
     let n = c.loop-byte.invariant.1.0 in
     let whole : n ≡ digits_value c.args.radix c.args.digits.now = sym (ap (digits_value_after c.args.radix n) end) ∙ c.loop-byte.invariant.1.2 in
-    c.ok-or.ensures.value
+    c.ok_or.ensures.value
     ∙ ap (λ o. ok_or o TooLarge) c.loop-byte.invariant.1.1
     ∙ capped_held n
     ∙ ap (λ m. capped (Some m)) whole

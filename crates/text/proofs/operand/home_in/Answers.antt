@@ -5,7 +5,7 @@ use Rattle.text.specs.Operands.{number_up_to}
 use Rattle.text.proofs.Lasts.{after_byte_none}
 use Rattle.text.proofs.operand.home_in.Goals as goal
 
-pub returns-in-err-digits : goal.returns-in-err-digits
-returns-in-err-digits c =
-    rw c.from-residual.ensures
-    (sym (ap (option_map (number_up_to 1023)) (after_byte_none 64 c.args.word.now (strip_prefix_char 64 c.args.word.now None c.in-err-digits.ensures.cases (lit< tt)))))
+pub returns-in_err-digits : goal.returns-in_err-digits
+returns-in_err-digits c =
+    rw c.from_residual.ensures
+    (sym (ap (option_map (number_up_to 1023)) (after_byte_none 64 c.args.word.now (strip_prefix_char 64 c.args.word.now None c.in_err-digits.ensures.cases (lit< tt)))))

@@ -24,17 +24,17 @@ loop-i-init c = refl
 abbrev no_word : Bor (List ℕ)
 no_word = record { ref_ptr = (0, 0); now = [] }
 
-pub returns-in-err-fields : goal.returns-in-err-fields
-returns-in-err-fields c =
-    let p = err_from_is_err_and c.from-residual.result c.from-residual.ensures.1 in
+pub returns-in_err-fields : goal.returns-in_err-fields
+returns-in_err-fields c =
+    let p = err_from_is_err_and c.from_residual.result c.from_residual.ensures.1 in
     ap result_ok p.1
-    ∙ fields_read_stops c.form-slots.result.now c.loop-i.fields c.args.operands.now c.loop-i.i D no_word (omega arith) (omega arith) c.in-err-fields.ensures
+    ∙ fields_read_stops c.form-slots.result.now c.loop-i.fields c.args.operands.now c.loop-i.i D no_word (omega arith) (omega arith) c.in_err-fields.ensures
     ∙ c.loop-i.invariant
     ∙ fields_read_of c.form-slots.result.now c.args.kind c.number.result c.args.home (map (λ x. x.now) c.args.operands.now) c.form-slots.ensures c.number.ensures
 
 pub loop-i-preserved : goal.loop-i-preserved
 loop-i-preserved c =
-    fields_read_goes c.form-slots.result.now c.loop-i.fields c.in-ok-fields.fields c.args.operands.now c.loop-i.i D no_word (omega arith) (omega arith) c.in-ok-fields.ensures
+    fields_read_goes c.form-slots.result.now c.loop-i.fields c.in_ok-fields.fields c.args.operands.now c.loop-i.i D no_word (omega arith) (omega arith) c.in_ok-fields.ensures
     ∙ c.loop-i.invariant
 
 pub returns : goal.returns
