@@ -11,6 +11,7 @@ mod output;
 use command::Command;
 use failure::Failure;
 use std::env;
+use std::process::ExitCode;
 
 // The words of the program on standard input.
 fn program(rt: &HostRuntime) -> Result<Vec<u64>, Failure> {
@@ -41,12 +42,12 @@ fn run(rt: &HostRuntime) -> Result<(), Failure> {
     Ok(())
 }
 
-fn main(rt: HostRuntime) -> Result<(), Failure> {
+fn main(rt: HostRuntime) -> ExitCode {
     match run(&rt) {
-        Ok(()) => Ok(()),
+        Ok(()) => ExitCode::SUCCESS,
         Err(failure) => {
             let _ = eprintln!(rt; "nadvoszip: {failure}");
-            Err(failure)
+            ExitCode::FAILURE
         }
     }
 }
