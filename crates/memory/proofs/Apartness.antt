@@ -10,9 +10,9 @@ use Rattle.memory.specs.Bytes.{number_at, stored}
 use Rattle.memory.specs.Calls.{first_word, left_by, peek_answer, peek_by, read_after, read_answer, read_by, refused_or, with_bytes, word_taken, write_after, write_answer, written_by}
 use Rattle.memory.specs.Meaning.{Meaning, fault}
 use Rattle.memory.specs.Theorems.{Access, GranulesApart, after, answer, gave, granule_of, peeking, reading, saw, writing, wrote}
-use Rattle.memory.specs.Accesses.{within_from, within_granule}
-use Rattle.memory.specs.Faulting.{fault_passed}
-use Rattle.memory.specs.Numbers.{number_at_same, stored_outside}
+use Rattle.memory.proofs.Accesses.{within_from, within_granule}
+use Rattle.memory.proofs.Faulting.{fault_passed}
+use Rattle.memory.proofs.Numbers.{number_at_same, stored_outside}
 
 data Effect : Type 0 where
   nothing : Effect

@@ -9,10 +9,10 @@ use Rattle.memory.specs.Bytes.{Room, number_at, seen, stored, stored_in}
 use Rattle.memory.specs.Calls.{peek_answer, read_after, read_answer, with_bytes, write_after, write_answer}
 use Rattle.memory.specs.Flat.{flat_meaning, flat_written, flat_written_by, is_whole}
 use Rattle.memory.specs.Meaning.{fault}
-use Rattle.memory.specs.Accesses.{aligned_width, one_granule, within_bounds, within_granule}
-use Rattle.memory.specs.Faulting.{fault_passed, peek_bytes, read_bytes, write_done}
-use Rattle.memory.specs.Numbers.{length-stored_in}
-use Rattle.memory.specs.Views.{SideBySide, number_seen, stored_seen}
+use Rattle.memory.proofs.Accesses.{aligned_width, one_granule, within_bounds, within_granule}
+use Rattle.memory.proofs.Faulting.{fault_passed, peek_bytes, read_bytes, write_done}
+use Rattle.memory.proofs.Numbers.{length-stored_in}
+use Rattle.memory.proofs.Views.{SideBySide, number_seen, stored_seen}
 
 module _ (bs : List ℕ) (d : Direction) (x w : ℕ) (e : fault (flat_meaning bs) d x w ≡ None) where
   whole : is_whole bs (granule x) ≡ true

@@ -12,8 +12,8 @@ use Rattle.memory.specs.Calls.{first_of, first_word, other_words, peek_answer, r
 use Rattle.memory.specs.Meaning.{fault, is_nil}
 use Rattle.memory.specs.Paged.{paged_meaning_of, paged_bytes, paged_waiting, paged_written, paged_written_by}
 use Rattle.memory.specs.Pages.{is_window, paged_meaning, place_in}
-use Rattle.memory.specs.Faulting.{fault_passed, peek_bytes, read_bytes, read_word, write_done}
-use Rattle.memory.specs.Paging.{paged_lent, paged_number, paged_stored}
+use Rattle.memory.proofs.Faulting.{fault_passed, peek_bytes, read_bytes, read_word, write_done}
+use Rattle.memory.proofs.Paging.{paged_lent, paged_number, paged_stored}
 
 -- where a word waits, the first one is taken
 first_taken : (ws : List ℕ) (f : Fault) → not (is_nil ws) ≡ true → ok_or (first_of ws) f ≡ Ok (first_word ws)

@@ -8,9 +8,9 @@ use Rattle.memory.specs.Bytes.{byte_of, number_at, stored}
 use Rattle.memory.specs.Calls.{first_word, left_by, other_words, peek_answer, peek_by, read_after, read_answer, read_by, refused_or, with_bytes, write_after, write_answer, written_by}
 use Rattle.memory.specs.Meaning.{Meaning, fault, is_nil}
 use Rattle.memory.specs.Theorems.{FaultsChangeNothing, PeeksExactly, PeeksLast, ReadsExactly, SameMarks, WritesExactly}
-use Rattle.memory.specs.Accesses.{within_from}
-use Rattle.memory.specs.Faulting.{fault_passed, is_allowed, peek_window, read_bytes, read_when_written, write_done}
-use Rattle.memory.specs.Numbers.{number_at_same, read_back, stored_inside, stored_outside}
+use Rattle.memory.proofs.Accesses.{within_from}
+use Rattle.memory.proofs.Faulting.{fault_passed, is_allowed, peek_window, read_bytes, read_when_written, write_done}
+use Rattle.memory.proofs.Numbers.{number_at_same, read_back, stored_inside, stored_outside}
 
 -- read, peek and what a read leaves, by one fault and one window mark
 peeks_as_read : (o : Option Fault) (b : Bool) (m : Meaning) (x w v : ℕ) → read_by o b m x w ≡ Ok v → b ≡ false → peek_by o b m x w ≡ Some v

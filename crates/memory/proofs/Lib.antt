@@ -1,4 +1,10 @@
+pub mod Accesses
 pub mod Apartness
+pub mod Faulting
 pub mod Flats
 pub mod Holding
 pub mod Laws
+pub mod Numbers
+pub mod Paging
+pub mod Settling
+pub mod Views

@@ -1,4 +1,5 @@
 pub mod Access
+pub mod Blank
 pub mod Bytes
 pub mod Calls
 pub mod Faults
@@ -7,9 +8,3 @@ pub mod Meaning
 pub mod Paged
 pub mod Pages
 pub mod Theorems
-pub mod Paging
-pub mod Accesses
-pub mod Faulting
-pub mod Settling
-pub mod Views
-pub mod Numbers

@@ -1,10 +1,10 @@
 // The flat memory: all of the caller's bytes, present and writable up to the last whole granule.
 ghost use Rattle.std.specs.Prelude.{◌≡◌};
 ghost use Rattle.memory.specs.Access.{granule};
+ghost use Rattle.memory.specs.Blank.{flat_blank};
 ghost use Rattle.memory.specs.Calls.{read_after, read_answer, write_after, write_answer};
 ghost use Rattle.memory.specs.Flat.{flat_bytes, flat_meaning, flat_meaning_of, flat_written, is_whole};
 ghost use Rattle.memory.specs.Meaning.{marks_at};
-ghost use borrow.Author.Rules.{rules};
 
 use crate::access::{Direction, granule_of};
 use crate::bytes::{number_at, store_at};
@@ -64,7 +64,7 @@ impl FlatMemory {
 impl Memory for FlatMemory {
     ghost meaning = { flat_meaning_of };
 
-    ghost blank = { unfold flat_meaning in Prim.search rules };
+    ghost blank = { λ s. flat_blank (flat_bytes s) };
 
     fn read(&mut self, x: u32, w: u32) -> Result<u32, Fault>
         ensures answer { result ≡ read_answer (flat_meaning_of self.old) x w }

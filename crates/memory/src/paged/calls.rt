@@ -3,11 +3,11 @@ ghost use Rattle.std.specs.Prelude.{◌≡◌, ◌/◌};
 ghost use Rattle.std.specs.Option.{ok_or};
 ghost use Rattle.memory.specs.declared.fault.Fault.TheVariants.{NoOrder};
 ghost use Rattle.memory.specs.Access.{granule};
+ghost use Rattle.memory.specs.Blank.{paged_blank};
 ghost use Rattle.memory.specs.Calls.{first_of, other_words, read_after, read_answer, write_after, write_answer};
 ghost use Rattle.memory.specs.Meaning.{marks_at};
 ghost use Rattle.memory.specs.Paged.{paged_meaning_of, paged_bytes, paged_written};
 ghost use Rattle.memory.specs.Pages.{is_window, page_at, place_in};
-ghost use Rattle.memory.specs.Paging.{paged_blank};
 
 use crate::access::{Direction, granule_of};
 use crate::bytes::{number_at, store_at};
@@ -67,7 +67,7 @@ impl PagedMemory {
 impl Memory for PagedMemory {
     ghost meaning = { paged_meaning_of };
 
-    ghost blank = { λ s a e. paged_blank s.pages s.window s.bytes.items s.waiting.items a e };
+    ghost blank = { λ s. paged_blank s.pages s.window (paged_bytes s) s.waiting.items };
 
     fn read(&mut self, x: u32, w: u32) -> Result<u32, Fault>
         ensures answer { result ≡ read_answer (paged_meaning_of self.old) x w }

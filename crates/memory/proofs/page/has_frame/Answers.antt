@@ -1,7 +1,7 @@
 use Rattle.std.proofs.Common.{◌+◌, ◌||◌, drop, sym, ap, ◌∙◌, arith}
 use Rattle.std.proofs.lemmas.List.{at_drop_all}
 use Rattle.memory.specs.Pages.{has_frame}
-use Rattle.memory.specs.Settling.{has_frame_drop}
+use Rattle.memory.proofs.Settling.{has_frame_drop}
 use Rattle.memory.proofs.page.has_frame.Goals as goal
 
 pub returns-then-holds : goal.returns-then-holds

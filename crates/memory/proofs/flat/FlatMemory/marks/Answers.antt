@@ -8,4 +8,4 @@ met whole = record { present = whole; writable = whole; window = false; waiting 
 
 pub returns : goal.returns
 unfolding flat_meaning met
-returns c = ap met c.is-whole-whole.ensures
+returns c = ap met c.is_whole-whole.ensures

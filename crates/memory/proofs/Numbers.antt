@@ -6,7 +6,7 @@ use Rattle.std.proofs.lemmas.Bool.{cases_eq}
 use Rattle.std.proofs.lemmas.Bool.Decides.{nat_tests}
 use Rattle.memory.specs.Access.{within}
 use Rattle.memory.specs.Bytes.{byte_of, number_at, stored, stored_in}
-use Rattle.memory.specs.Accesses.{within_from}
+use Rattle.memory.proofs.Accesses.{within_from}
 
 -- bytes that agree make the same number
 pub number_at_same : (f g : ℕ → ℕ) (x y w : ℕ) → ((k : ℕ) → k < w → f (x + k) ≡ g (y + k)) → number_at f x w ≡ number_at g y w

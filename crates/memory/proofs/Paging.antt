@@ -1,5 +1,5 @@
 -- The paged memory: its marks, its bytes, and its meaning after a read and a write.
-use Rattle.std.specs.Prelude.{◌≡◌, ℕ, suc, ◌+◌, ◌-◌, ◌/◌, ◌%◌, ◌≤◌, Bool, true, false, not, ◌&&◌, List, [], ◌∷◌, length, Some, None, Option, ◌==◌, nat_eq, slice_index}
+use Rattle.std.specs.Prelude.{◌≡◌, ℕ, suc, ◌+◌, ◌-◌, ◌/◌, ◌%◌, ◌≤◌, Bool, true, false, not, List, [], ◌∷◌, length, Some, None, Option, ◌==◌, nat_eq, slice_index}
 use Rattle.std.proofs.Common.{sym, ◌∙◌, inl, inr, arith}
 use Rattle.std.proofs.Math.Path.{ap}
 use Rattle.std.proofs.lemmas.Bool.{and_from, and_parts, both_ways, cases_Bool, eqb-true, false≢true, ne_eqb}
@@ -7,23 +7,21 @@ use Rattle.memory.specs.declared.access.Direction.{Direction}
 use Rattle.memory.specs.declared.marks.Marks.{Marks}
 use Rattle.memory.specs.declared.page.Page.{Page}
 use Rattle.memory.specs.Access.{aligned, granule, within}
+use Rattle.memory.specs.Blank.{page_of_granule}
 use Rattle.memory.specs.Bytes.{Room, number_at, stored, stored_in}
 use Rattle.memory.specs.Calls.{with_bytes}
 use Rattle.memory.specs.Meaning.{fault, is_nil, marks_at}
 use Rattle.memory.specs.Paged.{new_paged}
 use Rattle.memory.specs.Pages.{all_apart, all_inside, has_value, is_window, page_at, paged_meaning, place_in, settled, window_granule}
 use Rattle.memory.specs.Theorems.{OneWindow}
-use Rattle.memory.specs.Accesses.{aligned_width, one_granule, within_bounds, within_from, within_granule}
-use Rattle.memory.specs.Faulting.{fault_passed}
-use Rattle.memory.specs.Settling.{apart_at, inside_at}
-use Rattle.memory.specs.Views.{SideBySide, number_seen, stored_seen}
+use Rattle.memory.proofs.Accesses.{aligned_width, one_granule, within_bounds, within_from, within_granule}
+use Rattle.memory.proofs.Faulting.{fault_passed}
+use Rattle.memory.proofs.Settling.{apart_at, inside_at}
+use Rattle.memory.proofs.Views.{SideBySide, number_seen, stored_seen}
 
 none_waits : (ws : List ℕ) (n : ℕ) → n ≡ length ws → (n == 0) ≡ is_nil ws
 none_waits [] n e = ap (λ k. nat_eq k 0) e
 none_waits (w ∷ ws) n e = ne_eqb n 0 (λ z. let l : n ≡ suc (length ws) = e in omega arith)
-
-page_of_granule : (x : ℕ) → x / 256 ≡ granule x / 64
-page_of_granule x = omega arith
 
 pub marks_are : (ps : List Page) (win : Option ℕ) (bs ws : List ℕ) (n x : ℕ) (q : Page) (window none : Bool) → n ≡ length ws
     → q ≡ page_at ps (x / 256) → window ≡ is_window win (granule x) → none ≡ (n == 0)
@@ -94,14 +92,6 @@ module _ (ps : List Page) (win : Option ℕ) (bs ws : List ℕ) (n : ℕ) (long 
       ≡ with_bytes (paged_meaning ps win bs ws) (stored (paged_meaning ps win bs ws).byte x w v)
   unfolding paged_meaning
   paged_stored v = ap (with_bytes (paged_meaning ps win bs ws)) (stored_seen (has_value ps win) (place_in ps) x w paged_side bs v paged_room)
-
-pub paged_blank : (ps : List Page) (win : Option ℕ) (bs ws : List ℕ) (a : ℕ)
-    → ((paged_meaning ps win bs ws).present (granule a) && not ((paged_meaning ps win bs ws).window (granule a))) ≡ false
-    → (paged_meaning ps win bs ws).byte a ≡ 0
-unfolding paged_meaning
-paged_blank ps win bs ws a e =
-    let none : has_value ps win a ≡ false = ap (λ p. (page_at ps p).present && not (is_window win (granule a))) (page_of_granule a) ∙ e in
-    rw none
 
 one_granule_of : (win : Option ℕ) (g h : ℕ) → is_window win g ≡ true → is_window win h ≡ true → g ≡ h
 one_granule_of None g h p q = absurd (false≢true p)

@@ -5,8 +5,8 @@ use Rattle.std.proofs.Math.Path.{fun_ext}
 use Rattle.std.proofs.lemmas.Bool.{cases_Bool}
 use Rattle.memory.specs.Access.{within}
 use Rattle.memory.specs.Bytes.{byte_of, number_at, seen, stored, stored_in}
-use Rattle.memory.specs.Accesses.{within_bounds, within_from}
-use Rattle.memory.specs.Numbers.{get_or-stored_in, number_at_same, stored_inside, stored_outside}
+use Rattle.memory.proofs.Accesses.{within_bounds, within_from}
+use Rattle.memory.proofs.Numbers.{get_or-stored_in, number_at_same, stored_inside, stored_outside}
 
 -- the bytes of the access have values, and these stand side by side, apart from those of all other addresses
 pub record SideBySide (has : ℕ → Bool) (place : ℕ → ℕ) (x w : ℕ) : Type 0 where
