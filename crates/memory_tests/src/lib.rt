@@ -118,9 +118,9 @@ mod tests {
         ] {
             holds(&rt, &mut memory, row);
         }
-        assert_eq!(rt; memory.bytes(), &bytes);
+        assert_eq!(rt; memory.bytes(), bytes.as_slice());
         let back = memory.into_bytes();
-        assert_eq!(rt; back.as_slice(), &bytes);
+        assert_eq!(rt; back.as_slice(), bytes.as_slice());
         Ok(())
     }
 
@@ -141,23 +141,23 @@ mod tests {
         memory.write(0, 1, 0xa1b2_c3d4)?;
         assert_eq!(rt;
             memory.bytes(),
-            &[0xd4, 0xee, 0xee, 0xee, 0xee, 0xee, 0xee, 0xee, 0xee]
+            [0xd4, 0xee, 0xee, 0xee, 0xee, 0xee, 0xee, 0xee, 0xee].as_slice()
         );
         memory.write(6, 2, 0xa1b2_c3d4)?;
         assert_eq!(rt;
             memory.bytes(),
-            &[0xd4, 0xee, 0xee, 0xee, 0xee, 0xee, 0xd4, 0xc3, 0xee]
+            [0xd4, 0xee, 0xee, 0xee, 0xee, 0xee, 0xd4, 0xc3, 0xee].as_slice()
         );
         memory.write(0, 4, 0xa1b2_c3d4)?;
         assert_eq!(rt;
             memory.bytes(),
-            &[0xd4, 0xc3, 0xb2, 0xa1, 0xee, 0xee, 0xd4, 0xc3, 0xee]
+            [0xd4, 0xc3, 0xb2, 0xa1, 0xee, 0xee, 0xd4, 0xc3, 0xee].as_slice()
         );
         assert_eq!(rt; numbered(memory.write(8, 1, 0)), Err(2));
         assert_eq!(rt; numbered(memory.write(2, 4, 0)), Err(1));
         assert_eq!(rt;
             memory.bytes(),
-            &[0xd4, 0xc3, 0xb2, 0xa1, 0xee, 0xee, 0xd4, 0xc3, 0xee]
+            [0xd4, 0xc3, 0xb2, 0xa1, 0xee, 0xee, 0xd4, 0xc3, 0xee].as_slice()
         );
         Ok(())
     }
