@@ -1,6 +1,6 @@
 -- Accesses in different granules: each is one of three effects, and effects in different granules change places.
 use Rattle.std.proofs.Common.{◌≡◌, ℕ, ◌+◌, ◌<◌, Bool, true, false, ◌&&◌, Some, None, Ok, Option, sym, refl, ap, ◌∙◌, inl, inr, arith}
-use mathlib.Core.Path.{fun_ext}
+use Rattle.std.proofs.Math.Path.{fun_ext}
 use Rattle.std.proofs.lemmas.Bool.{both_ways, cases_Bool}
 use Rattle.memory.specs.declared.access.Direction.{Direction}
 use Rattle.memory.specs.declared.access.Direction.TheVariants.{Read, Write}

@@ -72,10 +72,6 @@ module _ (m : Meaning) (x w : ℕ) where
   unfolding write_answer write_after
   write_done v e = (ap refused_or e, ap (λ o. written_by o m x w v) e)
 
-  pub peek_refused : (f : Fault) → fault m Read x w ≡ Some f → peek_answer m x w ≡ None
-  unfolding peek_answer
-  peek_refused f e = ap (λ o. peek_by o (m.window (granule x)) m x w) e
-
   pub peek_window : m.window (granule x) ≡ true → peek_answer m x w ≡ None
   unfolding peek_answer
   peek_window h = rw h (go (fault m Read x w))

@@ -11,8 +11,7 @@ use Rattle.memory.specs.Blank.{page_of_granule}
 use Rattle.memory.specs.Bytes.{Room, number_at, stored, stored_in}
 use Rattle.memory.specs.Calls.{with_bytes}
 use Rattle.memory.specs.Meaning.{fault, is_nil, marks_at}
-use Rattle.memory.specs.Paged.{new_paged}
-use Rattle.memory.specs.Pages.{all_apart, all_inside, has_value, is_window, page_at, paged_meaning, place_in, settled, window_granule}
+use Rattle.memory.specs.Pages.{all_apart, all_inside, has_value, is_window, page_at, paged_meaning, place_in}
 use Rattle.memory.specs.Theorems.{OneWindow}
 use Rattle.memory.proofs.Accesses.{aligned_width, one_granule, within_bounds, within_from, within_granule}
 use Rattle.memory.proofs.Faulting.{fault_passed}
@@ -100,8 +99,3 @@ one_granule_of (Some k) g h p q = sym (eqb-true k g p) ∙ eqb-true k h q
 pub one_window : (ps : List Page) (win : Option ℕ) (bs ws : List ℕ) → OneWindow (paged_meaning ps win bs ws)
 unfolding paged_meaning
 one_window ps win bs ws g h p q = one_granule_of win g h p q
-
--- the table that is made means what the caller's pages mean
-pub new_meaning : (bs : List ℕ) (given : List Page) (address : Option ℕ) (ws : List ℕ) (table : List Page) (win : Option ℕ) (n : ℕ)
-    → n ≡ length bs → table ≡ settled n given 64 → win ≡ window_granule address → paged_meaning table win bs ws ≡ new_paged bs given address ws
-new_meaning bs given address ws table win n l t a = rw (t, a, l)

@@ -1,15 +1,12 @@
 -- Pages that are settled from the lowest up: what the table holds then.
-use Rattle.std.specs.Prelude.{◌≡◌, ℕ, zero, suc, ◌+◌, ◌*◌, ◌<◌, ◌≤◌, Bool, true, false, not, ◌&&◌, ◌||◌, List, [], ◌∷◌, ◌++◌, length, take, drop, ◌==◌, ◌≢◌, slice_set, refl}
+use Rattle.std.specs.Prelude.{◌≡◌, ℕ, zero, suc, ◌+◌, ◌*◌, ◌<◌, ◌≤◌, Bool, true, false, not, ◌&&◌, ◌||◌, List, [], ◌∷◌, ◌++◌, length, take, ◌==◌, ◌≢◌, slice_set, refl}
 use Rattle.std.proofs.Common.{sym, ap, ◌∙◌, inl, inr, arith, add-one}
-use Rattle.std.proofs.lemmas.List.{at_drop_more, get_or_append_left, get_or_at, get_or_past, length_push, take_more_set}
+use Rattle.std.proofs.lemmas.List.{get_or_append_left, get_or_at, get_or_past, length_push, take_more_set}
 use Rattle.std.proofs.lemmas.Bool.{and_from, and_parts, both_ways, cases_Bool, cases_eq, cases_lt, eqb-true, false≢true, le-leb, leb-true, or_from, or_right}
 use Rattle.std.proofs.lemmas.Bool.Decides.{nat_tests}
 use Rattle.memory.specs.declared.page.Page.{Page}
 use Rattle.memory.specs.Pages.{all_apart, all_inside, has_frame, holds_frame, is_inside, no_page, page_at, settled, settled_page}
 use Rattle.memory.specs.Theorems.{SettlesPages}
-
-pub has_frame_drop : (ps : List Page) (i f : ℕ) → i < length ps → has_frame (drop i ps) f ≡ (holds_frame (page_at ps i) f || has_frame (drop (i + 1) ps) f)
-has_frame_drop ps i f h = at_drop_more (λ qs. has_frame qs f) ps i no_page h
 
 pub settled_none : (n : ℕ) (given : List Page) → [] ≡ settled n given 0
 unfolding settled

@@ -1,6 +1,5 @@
-use Rattle.std.proofs.Common.{take, sym, ap, ◌∙◌, arith}
-use Rattle.std.proofs.lemmas.List.{take_all}
-use Rattle.memory.specs.Pages.{settled, settled_page}
+use Rattle.std.proofs.Common.{take, ap, ◌∙◌, arith}
+use Rattle.memory.specs.Pages.{settled_page}
 use Rattle.memory.proofs.Settling.{settled_more, settled_none}
 use Rattle.memory.proofs.page.settle.Goals as goal
 
@@ -11,8 +10,3 @@ pub loop-place-preserved : goal.loop-place-preserved
 loop-place-preserved c =
     settled_more c.args.size c.args.given.now c.loop-place.table c.loop-place.place c.settle_page.result (omega arith) c.loop-place.invariant
     (c.settle_page.ensures ∙ ap (settled_page c.args.size (take c.loop-place.place c.loop-place.table)) c.page_at-page.ensures)
-
-pub returns : goal.returns
-returns c =
-    sym (take_all c.loop-place.place c.loop-place.table (omega arith)) ∙ c.loop-place.invariant
-    ∙ ap (settled c.args.size c.args.given.now) (omega arith)

@@ -1,5 +1,5 @@
-use Rattle.std.proofs.Common.{refl, arith}
-use Rattle.memory.proofs.Paging.{new_meaning, one_window}
+use Rattle.std.proofs.Common.{arith}
+use Rattle.memory.proofs.Paging.{one_window}
 use Rattle.memory.proofs.Settling.{apart_table, inside_table, settles_pages}
 use Rattle.memory.proofs.paged.PagedMemory.new.Goals as goal
 
@@ -10,13 +10,8 @@ invariant_of-result c =
       apart = apart_table c.len.result c.args.pages.now c.settle.new.table c.settle.ensures;
     }
 
-pub returns : goal.returns
-returns c =
-    record {
-      meaning = new_meaning c.args.bytes.items c.args.pages.now c.args.window c.args.orders.items c.settle.new.table c.window_granule.result
-          c.len.result (omega arith) c.settle.ensures c.window_granule.ensures;
-      bytes = refl;
-      waiting = refl;
-      pages = settles_pages c.args.bytes.len c.args.pages.now;
-      window = one_window c.settle.new.table c.window_granule.result c.args.bytes.items c.args.orders.items;
-    }
+pub returns-clause-pages : goal.returns-clause-pages
+returns-clause-pages c = settles_pages c.args.bytes.len c.args.pages.now
+
+pub returns-clause-window : goal.returns-clause-window
+returns-clause-window c = one_window c.settle.new.table c.window_granule.result c.args.bytes.items c.args.orders.items
