@@ -11,7 +11,6 @@ use Rattle.text.specs.declared.drafts.Mark.{Mark}
 abbrev pub by_bytes : Bor (List ℕ) → Bor (List ℕ) → Ordering
 by_bytes x y = slice_cmp nat_cmp x.now y.now
 
-module _ where
-  -- n is the table m with this place and line at the label
-  abbrev pub Marked : BTreeMap (Bor (List ℕ)) Mark → BTreeMap (Bor (List ℕ)) Mark → Bor (List ℕ) → ℕ → ℕ → Type 0
-  Marked m n l p k = Updates by_bytes m n l (Some (record { place = p; line = k }))
+-- n is the table m with this place and line at the label
+abbrev pub Marked : BTreeMap (Bor (List ℕ)) Mark → BTreeMap (Bor (List ℕ)) Mark → Bor (List ℕ) → ℕ → ℕ → Type 0
+Marked m n l p k = Updates by_bytes m n l (Some (record { place = p; line = k }))
