@@ -1,6 +1,6 @@
 /* The C interface of nadvoszip, an instruction scheduler for the order core.
  *
- * Link with libhost.a, which `rt lib` in crates/host writes to crates/host/out/. No call allocates, keeps a pointer or
+ * Link with libhost.a, which `host/build` writes to target/staticlib/. No call allocates, keeps a pointer or
  * fails in any other way than by the number that it answers. A slice is a pointer and its length in elements; it
  * must point at that many numbers, and where its length is 0 nothing is read or written through it.
  */

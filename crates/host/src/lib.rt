@@ -1,4 +1,5 @@
-// The C boundary: numbers and lent word slices. C keeps no promise, so nothing here asks for one.
+// What C is offered, over numbers and lent word slices; the exports stand in host_c. C keeps no promise, so nothing here
+// asks for one.
 #![tactic(auto)]
 
 ghost use Rattle.std.specs.Prelude.{◌≡◌};
@@ -17,8 +18,7 @@ fn fill(slice: &mut [u64], values: &[u64])
 
 // Answers 0 and writes kind, width, d, a, b, home and imm into `fields`, as many as it has room for; or answers the
 // refusal's number and writes nothing.
-#[unsafe(no_mangle)]
-pub extern "C" fn nadvoszip_unpack(word: u64, fields: &mut [u64]) -> u64
+pub fn nadvoszip_unpack(word: u64, fields: &mut [u64]) -> u64
     ensures number { result ≡ unpack_number word }
     ensures fields { fields.new ≡ unpack_fields word fields.old }
 {
