@@ -73,7 +73,7 @@ pub fn compose(f: &Fields) -> Result<Instruction, WordRefusal>
 // the fields of every instruction and no others.
 pub fn pack(i: &Instruction) -> u64
     ensures word { result ≡ packed i.now }
-    ensures laws { (OneToOne) × (ComposesExactly) }
+    ensures laws { OneToOne × ComposesExactly }
 {
     join(i)
 }

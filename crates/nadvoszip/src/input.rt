@@ -1,5 +1,5 @@
 // Standard input as text, up to a stated length.
-ghost use Rattle.std.specs.Prelude.{◌≡◌, ◌≤◌, length, count_by, nat_eq};
+ghost use Rattle.std.specs.Prelude.{◌≡◌, ◌≤◌, length, count_by, ◌==◌};
 
 use crate::failure::Failure;
 use std::io::Read;
@@ -8,7 +8,7 @@ use std::io::Read;
 const MOST_BYTES: usize = 16_777_216;
 
 fn newlines(bytes: &[u8]) -> usize
-    ensures value { result ≡ count_by (λ c. nat_eq c 10) bytes.now }
+    ensures value { result ≡ count_by (λ c. c == 10) bytes.now }
     ensures bound { result ≤ length bytes.now }
 {
     let mut count = 0;
