@@ -1,5 +1,5 @@
 -- Accesses in different granules: each is one of three effects, and effects in different granules change places.
-use Rattle.std.proofs.Common.{◌≡◌, ℕ, ◌+◌, ◌<◌, Bool, true, false, ◌&&◌, Some, None, Ok, Option, sym, refl, ap, ◌∙◌, inl, inr, arith}
+use Rattle.std.proofs.Common.{◌≡◌, ℕ, ◌+◌, ◌<◌, Bool, true, false, ◌&&◌, slice_index, Some, None, Ok, Option, sym, refl, ap, ◌∙◌, inl, inr, arith}
 use Rattle.std.proofs.Math.Path.{fun_ext}
 use Rattle.std.proofs.lemmas.Bool.{both_ways, cases_Bool}
 use Rattle.memory.specs.declared.access.Direction.{Direction}
@@ -7,7 +7,7 @@ use Rattle.memory.specs.declared.access.Direction.TheVariants.{Read, Write}
 use Rattle.memory.specs.declared.fault.Fault.{Fault}
 use Rattle.memory.specs.Access.{aligned, granule, within}
 use Rattle.memory.specs.Bytes.{number_at, stored}
-use Rattle.memory.specs.Calls.{first_word, left_by, peek_answer, peek_by, read_after, read_answer, read_by, refused_or, with_bytes, word_taken, write_after, write_answer, written_by}
+use Rattle.memory.specs.Calls.{left_by, peek_answer, peek_by, read_after, read_answer, read_by, refused_or, with_bytes, word_taken, write_after, write_answer, written_by}
 use Rattle.memory.specs.Meaning.{Meaning, fault}
 use Rattle.memory.specs.Theorems.{Access, GranulesApart, after, answer, gave, granule_of, peeking, reading, saw, writing, wrote}
 use Rattle.memory.proofs.Accesses.{within_from, within_granule}
@@ -129,7 +129,7 @@ read_same : (o : Option Fault) (b : Bool) (m n : Meaning) (y u : ℕ)
     → (b ≡ true → n.waiting ≡ m.waiting) → (o ≡ None → number_at n.byte y u ≡ number_at m.byte y u)
     → (read_by o b n y u ≡ read_by o b m y u) × (peek_by o b n y u ≡ peek_by o b m y u)
 read_same (Some f) b m n y u words number = (refl, refl)
-read_same None true m n y u words number = (ap (λ l. Ok (first_word l)) (words refl), refl)
+read_same None true m n y u words number = (ap (λ l. Ok (slice_index l 0)) (words refl), refl)
 read_same None false m n y u words number = (ap Ok (number refl), ap Some (number refl))
 
 module _ (m : Meaning) (g : ℕ) (e : Effect) (k : Known m g e) (y u : ℕ) (ne : g ≡ granule y → ⊥) (one : (m.window g && m.window (granule y)) ≡ false) where

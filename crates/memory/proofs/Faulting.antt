@@ -1,5 +1,5 @@
 -- What follows of an access with a fault, and of one without: the only file that looks into the order of faults.
-use Rattle.std.specs.Prelude.{◌≡◌, ℕ, Bool, true, false, not, ◌&&◌, is_some, Some, None, Ok, Err, Option, ◌==◌}
+use Rattle.std.specs.Prelude.{◌≡◌, ℕ, Bool, true, false, not, ◌&&◌, List, is_some, Some, None, Ok, Err, Option, ◌==◌, slice_index}
 use Rattle.std.proofs.Math.Path.{refl, ap}
 use Rattle.std.proofs.Common.{sym, ◌∙◌, arith}
 use Rattle.std.proofs.lemmas.Bool.{and_parts, false≢true, not-true, true≢false}
@@ -9,7 +9,7 @@ use Rattle.memory.specs.declared.fault.Fault.{Fault}
 use Rattle.memory.specs.declared.marks.Marks.{Marks}
 use Rattle.memory.specs.Access.{aligned, granule, is_write}
 use Rattle.memory.specs.Bytes.{number_at, stored}
-use Rattle.memory.specs.Calls.{first_word, left_by, peek_answer, peek_by, read_after, read_answer, read_by, refused_or, with_bytes, word_taken, write_after, write_answer, written_by}
+use Rattle.memory.specs.Calls.{left_by, peek_answer, peek_by, read_after, read_answer, read_by, refused_or, stored_or_kept, with_bytes, word_taken, write_after, write_answer, written_by}
 use Rattle.memory.specs.Meaning.{Meaning, fault, first_fault, marks_at, shows_at}
 
 pub is_refused : (o : Option Fault) (f : Fault) → refused_or o ≡ Err f → o ≡ Some f
@@ -59,7 +59,7 @@ module _ (m : Meaning) (x w : ℕ) where
   read_bytes e h = (rw (e, h), rw (e, h))
 
   pub read_word : fault m Read x w ≡ None → m.window (granule x) ≡ true
-      → (read_answer m x w ≡ Ok (first_word m.waiting)) × (read_after m x w ≡ word_taken m)
+      → (read_answer m x w ≡ Ok (slice_index m.waiting 0)) × (read_after m x w ≡ word_taken m)
   unfolding read_answer read_after
   read_word e h = (rw (e, h), rw (e, h))
 
@@ -107,6 +107,17 @@ module _ (m : Meaning) (x w : ℕ) (k : Marks) (met : k ≡ marks_at m (granule 
 
   pub met_fault : (d : Direction) (f : Fault) → Err f ≡ refused_or (first_fault k d x w) → fault m d x w ≡ Some f
   met_fault d f e = sym (at_marks d) ∙ is_refused (first_fault k d x w) f (sym e)
+
+  -- a refused access: what it answers, and that it leaves the memory as it was
+  pub met_read_fault : (f : Fault) → Err f ≡ refused_or (first_fault k Read x w) → (Err f ≡ read_answer m x w) × (m ≡ read_after m x w)
+  met_read_fault f e = let r = read_refused m x w f (met_fault Read f e) in (sym r.0, sym r.1)
+
+  pub met_write_fault : (v : ℕ) (f : Fault) → Err f ≡ refused_or (first_fault k Write x w) → (Err f ≡ write_answer m x w) × (m ≡ write_after m x w v)
+      × ((bs : List ℕ) (at : ℕ) → bs ≡ stored_or_kept (fault m Write x w) bs at w v)
+  met_write_fault v f e =
+      let some = met_fault Write f e in
+      let r = write_refused m x w v f some in
+      (sym r.0, sym r.1, λ bs at. ap (λ o. stored_or_kept o bs at w v) (sym some))
 
   pub met_none : (d : Direction) (u : Unit) → Ok u ≡ refused_or (first_fault k d x w) → fault m d x w ≡ None
   met_none d u e = sym (at_marks d) ∙ is_allowed (first_fault k d x w) u (sym e)

@@ -1,14 +1,16 @@
 -- The rules of an access, proved of every memory from what a fault and its absence tell.
+use Rattle.std.specs.Prelude.{length, drop, slice_index, ◌==◌}
 use Rattle.std.proofs.Common.{◌≡◌, ℕ, ◌+◌, ◌-◌, ◌*◌, ◌%◌, ◌^◌, Bool, true, false, not, List, [], ◌∷◌, Some, None, Ok, Err, Option, sym, refl, ap, ◌∙◌, inl, inr, arith}
 use Rattle.std.proofs.lemmas.Bool.{cases_Bool, true≢false}
 use Rattle.memory.specs.declared.access.Direction.TheVariants.{Read, Write}
 use Rattle.memory.specs.declared.fault.Fault.{Fault}
 use Rattle.memory.specs.Access.{granule, within}
 use Rattle.memory.specs.Bytes.{byte_of, number_at, stored}
-use Rattle.memory.specs.Calls.{first_word, left_by, other_words, peek_answer, peek_by, read_after, read_answer, read_by, refused_or, with_bytes, write_after, write_answer, written_by}
-use Rattle.memory.specs.Meaning.{Meaning, fault, is_nil}
-use Rattle.memory.specs.Theorems.{FaultsChangeNothing, PeeksExactly, PeeksLast, ReadsExactly, SameMarks, WritesExactly}
+use Rattle.memory.specs.Calls.{left_by, peek_answer, peek_by, read_after, read_answer, read_by, refused_or, with_bytes, write_after, write_answer, written_by}
+use Rattle.memory.specs.Meaning.{Meaning, fault}
+use Rattle.memory.specs.Theorems.{AccessLaws, FaultsChangeNothing, PeeksExactly, PeeksLast, ReadsExactly, SameMarks, WritesExactly}
 use Rattle.memory.proofs.Accesses.{within_from}
+use Rattle.memory.proofs.Apartness.{granules_apart}
 use Rattle.memory.proofs.Faulting.{fault_passed, is_allowed, peek_window, read_bytes, read_when_written, write_done}
 use Rattle.memory.proofs.Numbers.{number_at_same, read_back, stored_inside, stored_outside}
 
@@ -125,16 +127,16 @@ left_elsewhere (Some f) b m h = refl
 left_elsewhere None true m h = absurd (true≢false h)
 left_elsewhere None false m h = refl
 
-whole_list : (ws : List ℕ) → not (is_nil ws) ≡ true → ws ≡ first_word ws ∷ other_words ws
+whole_list : (ws : List ℕ) → not (length ws == 0) ≡ true → ws ≡ slice_index ws 0 ∷ drop 1 ws
 whole_list [] h = absurd (true≢false (sym h))
 whole_list (v ∷ vs) h = refl
 
-takes_first : (o : Option Fault) (b : Bool) (m : Meaning) (x w v : ℕ) → (o ≡ None → not (is_nil m.waiting) ≡ true) → b ≡ true
+takes_first : (o : Option Fault) (b : Bool) (m : Meaning) (x w v : ℕ) → (o ≡ None → not (length m.waiting == 0) ≡ true) → b ≡ true
     → read_by o b m x w ≡ Ok v → m.waiting ≡ v ∷ (left_by o b m).waiting
 takes_first (Some f) b m x w v some h e = cc
 takes_first None true m x w v some h e =
-    let first : first_word m.waiting ≡ v = cc in
-    whole_list m.waiting (some refl) ∙ ap (λ u. u ∷ other_words m.waiting) first
+    let first : slice_index m.waiting 0 ≡ v = cc in
+    whole_list m.waiting (some refl) ∙ ap (λ u. u ∷ drop 1 m.waiting) first
 takes_first None false m x w v some h e = absurd (true≢false (sym h))
 
 read_number : (o : Option Fault) (b : Bool) (m : Meaning) (x w v : ℕ) → b ≡ false → read_by o b m x w ≡ Ok v → v ≡ number_at m.byte x w
@@ -190,4 +192,14 @@ peeks_last = record {
       peek_alike (write_after m x w v) m y u k.present k.window
       (number_at_same (write_after m x w v).byte m.byte y y u (λ a l.
       writes_exactly.spares m x w v (y + a) (out (y + a) (within_from y u (y + a) (omega arith) (omega arith)))));
+}
+
+pub access_laws : AccessLaws
+access_laws = record {
+  peeks = peeks_exactly;
+  peeks_last = peeks_last;
+  faults = faults_change_nothing;
+  writes = writes_exactly;
+  reads = reads_exactly;
+  granules = granules_apart;
 }

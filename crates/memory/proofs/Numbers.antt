@@ -71,11 +71,3 @@ get_or-stored_in bs x zero v a h =
     rw out
 get_or-stored_in bs x (suc w) v a h =
     stored_in_more bs (stored_in bs x w v) x w v a (omega (arith, length-stored_in bs x w v)) (get_or-stored_in bs x w v a (omega arith))
-
--- a number is read from a list that was lent, and stored there
-pub lent_number : (lent bs : List ℕ) (at p w n : ℕ) → n ≡ number_at (λ a. slice_index lent a) at w → lent ≡ bs → at ≡ p
-    → n ≡ number_at (λ a. slice_index bs a) p w
-lent_number lent bs at p w n e same here = e ∙ rw (same, here)
-
-pub lent_stored : (lent bs ws : List ℕ) (at p w v : ℕ) → ws ≡ stored_in lent at w v → lent ≡ bs → at ≡ p → ws ≡ stored_in bs p w v
-lent_stored lent bs ws at p w v e same here = e ∙ rw (same, here)

@@ -1,10 +1,10 @@
 -- The flat memory over a list of bytes: what it means, and what a write leaves in the list.
-use Rattle.std.specs.Prelude.{ℕ, ◌/◌, ◌^◌, min, Bool, false, List, [], length, Some, None, vec_items, Option, nat_lt}
+use Rattle.std.specs.Prelude.{ℕ, ◌/◌, ◌^◌, min, Bool, false, List, [], length, vec_items, nat_lt}
 use Rattle.memory.specs.declared.access.Direction.TheVariants.{Write}
-use Rattle.memory.specs.declared.fault.Fault.{Fault}
 use Rattle.memory.specs.declared.flat.FlatMemory.{FlatMemory}
 use Rattle.memory.specs.Access.{granule}
-use Rattle.memory.specs.Bytes.{seen, stored_in}
+use Rattle.memory.specs.Bytes.{seen}
+use Rattle.memory.specs.Calls.{stored_or_kept}
 use Rattle.memory.specs.Meaning.{Meaning, fault}
 
 -- g is a whole granule of these bytes, and an address can name it
@@ -23,10 +23,6 @@ flat_bytes s = vec_items s.bytes
 abbrev pub flat_meaning_of : FlatMemory → Meaning
 flat_meaning_of s = flat_meaning (flat_bytes s)
 
-abbrev pub flat_written_by : Option Fault → List ℕ → ℕ → ℕ → ℕ → List ℕ
-flat_written_by (Some f) bs x w v = bs
-flat_written_by None bs x w v = stored_in bs x w v
-
--- the caller's bytes after a write: its own bytes are stored, or it is refused and nothing is
+-- the caller's bytes after a write
 unfoldable pub flat_written : List ℕ → ℕ → ℕ → ℕ → List ℕ
-flat_written bs x w v = flat_written_by (fault (flat_meaning bs) Write x w) bs x w v
+flat_written bs x w v = stored_or_kept (fault (flat_meaning bs) Write x w) bs x w v

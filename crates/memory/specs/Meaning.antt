@@ -1,5 +1,5 @@
 -- What a memory means to whoever uses it, and the fault of an access.
-use Rattle.std.specs.Prelude.{ℕ, Bool, true, false, cond, not, ◌&&◌, ◌||◌, List, [], ◌∷◌, is_some, Some, None, Option, ◌==◌}
+use Rattle.std.specs.Prelude.{ℕ, Bool, cond, not, ◌&&◌, ◌||◌, List, length, is_some, Some, None, Option, ◌==◌}
 use Rattle.memory.specs.declared.access.Direction.{Direction}
 use Rattle.memory.specs.declared.access.Direction.TheVariants.{Read}
 use Rattle.memory.specs.declared.fault.Fault.{Fault}
@@ -17,13 +17,9 @@ pub record Meaning : Type 0 where
   pub byte : ℕ → ℕ
   pub waiting : List ℕ
 
-abbrev pub is_nil : List ℕ → Bool
-is_nil [] = true
-is_nil (x ∷ xs) = false
-
 -- the marks that an access at granule g meets
 abbrev pub marks_at : Meaning → ℕ → Marks
-marks_at m g = record { present = m.present g; writable = m.writable g; window = m.window g; waiting = not (is_nil m.waiting) }
+marks_at m g = record { present = m.present g; writable = m.writable g; window = m.window g; waiting = not (length m.waiting == 0) }
 
 -- the first rule that an access breaks where it meets these marks
 abbrev pub first_fault : Marks → Direction → ℕ → ℕ → Option Fault

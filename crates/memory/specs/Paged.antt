@@ -1,11 +1,10 @@
 -- The paged memory as it is held, and what its calls leave in the caller's bytes.
-use Rattle.std.specs.Prelude.{ℕ, List, length, Some, None, vec_items, Option}
+use Rattle.std.specs.Prelude.{ℕ, List, length, vec_items, Option}
 use Rattle.std.specs.VecDeque.{deque_items}
 use Rattle.memory.specs.declared.access.Direction.TheVariants.{Write}
-use Rattle.memory.specs.declared.fault.Fault.{Fault}
 use Rattle.memory.specs.declared.page.Page.{Page}
 use Rattle.memory.specs.declared.paged.PagedMemory.{PagedMemory}
-use Rattle.memory.specs.Bytes.{stored_in}
+use Rattle.memory.specs.Calls.{stored_or_kept}
 use Rattle.memory.specs.Meaning.{Meaning, fault}
 use Rattle.memory.specs.Pages.{paged_meaning, place_in, settled, window_granule}
 
@@ -24,10 +23,6 @@ paged_meaning_of s = paged_meaning s.pages s.window (paged_bytes s) (paged_waiti
 abbrev pub new_paged : List ℕ → List Page → Option ℕ → List ℕ → Meaning
 new_paged bs given address ws = paged_meaning (settled (length bs) given 64) (window_granule address) bs ws
 
-abbrev pub paged_written_by : Option Fault → PagedMemory → ℕ → ℕ → ℕ → List ℕ
-paged_written_by (Some f) s x w v = paged_bytes s
-paged_written_by None s x w v = stored_in (paged_bytes s) (place_in s.pages x) w v
-
--- the caller's bytes after a write: its own bytes are stored, or it is refused and nothing is
+-- the caller's bytes after a write
 unfoldable pub paged_written : PagedMemory → ℕ → ℕ → ℕ → List ℕ
-paged_written s x w v = paged_written_by (fault (paged_meaning_of s) Write x w) s x w v
+paged_written s x w v = stored_or_kept (fault (paged_meaning_of s) Write x w) (paged_bytes s) (place_in s.pages x) w v

@@ -2,7 +2,7 @@
 ghost use Rattle.std.specs.Prelude.{◌≡◌};
 ghost use Rattle.memory.specs.Access.{aligned, granule, is_write};
 
-#[derive(Clone, Copy)]
+#[derive(Clone, Copy, PartialEq, Eq, Debug)]
 pub enum Direction {
     Read,
     Write,
@@ -12,10 +12,7 @@ impl Direction {
     pub fn is_write(self) -> bool
         ensures { result ≡ is_write self }
     {
-        match self {
-            Direction::Read => false,
-            Direction::Write => true,
-        }
+        self == Direction::Write
     }
 }
 

@@ -2,33 +2,28 @@
 ghost use Rattle.std.specs.Prelude.{◌≡◌, Some};
 ghost use Rattle.memory.specs.Faults.{fault_number, fault_reason, fault_text};
 
+use std::error::Error;
 use std::fmt;
 
 #[derive(Clone, Copy, PartialEq, Eq, Debug)]
 pub enum Fault {
     // the width is not 1, 2 or 4, or the address is not a multiple of it
-    Shape,
+    Shape = 1,
     // the granule is not present
-    Absent,
+    Absent = 2,
     // a write to a granule that is not writable
-    ReadOnly,
+    ReadOnly = 3,
     // a write to a window, or a read of a part of one
-    Window,
+    Window = 4,
     // a window is read while no order word waits
-    NoOrder,
+    NoOrder = 5,
 }
 
 impl Fault {
     pub fn number(self) -> u64
         ensures { result ≡ fault_number self }
     {
-        match self {
-            Fault::Shape => 1,
-            Fault::Absent => 2,
-            Fault::ReadOnly => 3,
-            Fault::Window => 4,
-            Fault::NoOrder => 5,
-        }
+        self as u64
     }
 
     // The broken rule in words.
@@ -45,6 +40,8 @@ impl Fault {
     }
 }
 
+// By hand: a derived Display would not promise the text. (What refuses a word has the same shape, in a crate that this
+// one does not rest on.)
 impl fmt::Display for Fault {
     ghost output = { λ f. Some (fault_text f) };
 
@@ -54,3 +51,5 @@ impl fmt::Display for Fault {
         write!(f, "fault {number}: {reason}")
     }
 }
+
+impl Error for Fault {}

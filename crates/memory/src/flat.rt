@@ -12,7 +12,7 @@ use crate::fault::Fault;
 use crate::interface::Memory;
 use crate::marks::Marks;
 
-#[derive(Drop)]
+#[derive(PartialEq, Eq, Debug, Drop)]
 pub struct FlatMemory {
     bytes: Vec<u8>,
 }
@@ -36,8 +36,7 @@ impl FlatMemory {
     pub fn into_bytes(self) -> Vec<u8>
         ensures { result.items ≡ flat_bytes self }
     {
-        let FlatMemory { bytes } = self;
-        bytes
+        self.bytes
     }
 
     // Whether the address lies in a whole granule.
@@ -48,6 +47,7 @@ impl FlatMemory {
     }
 
     // What an access at `x` meets.
+    #[tactic(auto, unfolding(crate::specs::Flat::flat_meaning))]
     fn marks(&self, x: u32) -> Marks
         ensures { result ≡ marks_at (flat_meaning_of self.now) (granule x) }
     {
@@ -61,6 +61,8 @@ impl FlatMemory {
     }
 }
 
+// Read, write and peek of both memories share `Marks` and the numbers in bytes. A helper for what is left would be longer:
+// the place of the bytes and the window differ.
 impl Memory for FlatMemory {
     ghost meaning = { flat_meaning_of };
 

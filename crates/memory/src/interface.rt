@@ -6,6 +6,8 @@ ghost use Rattle.memory.specs.Meaning.{Meaning};
 
 use crate::fault::Fault;
 
+// An access is asked by its address and its width, and not by a struct of the two: any numbers may be asked, and nobody
+// keeps them.
 pub trait Memory {
     ghost meaning: { Self → Meaning };
 
@@ -24,5 +26,7 @@ pub trait Memory {
         ensures { result ≡ peek_answer (meaning self.now) x w };
 
     // a byte that has no value counts as 0
-    ghost blank: { (s : Self) (a : ℕ) → ((meaning s).present (granule a) && not ((meaning s).window (granule a))) ≡ false → (meaning s).byte a ≡ 0 };
+    ghost blank: { (s : Self) (a : ℕ)
+        → ((meaning s).present (granule a) && not ((meaning s).window (granule a))) ≡ false
+        → (meaning s).byte a ≡ 0 };
 }

@@ -7,7 +7,7 @@ ghost use Rattle.memory.specs.Theorems.{AccessLaws};
 use crate::access::{Direction, is_aligned};
 use crate::fault::Fault;
 
-#[derive(Clone, Copy)]
+#[derive(Clone, Copy, PartialEq, Eq, Debug)]
 pub struct Marks {
     pub present: bool,
     pub writable: bool,
@@ -17,35 +17,26 @@ pub struct Marks {
 }
 
 impl Marks {
-    // The first fault of an access that meets these marks, if it has one.
-    fn first_fault(self, direction: Direction, x: u32, w: u32) -> Option<Fault>
-        ensures { result ≡ first_fault self direction x w }
-    {
-        let write = direction.is_write();
-        if !is_aligned(x, w) {
-            Some(Fault::Shape)
-        } else if !self.present {
-            Some(Fault::Absent)
-        } else if write && !self.writable {
-            Some(Fault::ReadOnly)
-        } else if self.window && (write || w != 4) {
-            Some(Fault::Window)
-        } else if self.window && !self.waiting {
-            Some(Fault::NoOrder)
-        } else {
-            None
-        }
-    }
-
     // Refuses an access that meets these marks with its first fault. Every read and every write goes through this call, so
     // the laws of an access stand on it.
+    #[tactic(auto, using(crate::proofs::Laws::access_laws))]
     pub fn check(self, direction: Direction, x: u32, w: u32) -> Result<(), Fault>
         ensures answer { result ≡ refused_or (first_fault self direction x w) }
         ensures laws { AccessLaws }
     {
-        match self.first_fault(direction, x, w) {
-            Some(fault) => Err(fault),
-            None => Ok(()),
+        let write = direction.is_write();
+        if !is_aligned(x, w) {
+            Err(Fault::Shape)
+        } else if !self.present {
+            Err(Fault::Absent)
+        } else if write && !self.writable {
+            Err(Fault::ReadOnly)
+        } else if self.window && (write || w != 4) {
+            Err(Fault::Window)
+        } else if self.window && !self.waiting {
+            Err(Fault::NoOrder)
+        } else {
+            Ok(())
         }
     }
 
@@ -53,6 +44,6 @@ impl Marks {
     pub fn shows(self, x: u32, w: u32) -> bool
         ensures { result ≡ shows_at self x w }
     {
-        !self.window && self.first_fault(Direction::Read, x, w).is_none()
+        !self.window && self.check(Direction::Read, x, w).is_ok()
     }
 }

@@ -9,32 +9,26 @@ mod tests {
     use memory::interface::Memory;
     use memory::page::Page;
     use memory::paged::PagedMemory;
-    use std::alloc::{AllocError, AllocFailed, Global};
+    use std::alloc::{AllocError, Global};
     use std::collections::VecDeque;
     use std::process::Abort;
     use std::test::Fail;
 
     const LAST: u32 = u32::MAX;
 
-    // An access with what a read answers, what a write answers and whether a peek answers, too. A fault by its number.
+    // An access with what a read, a write and a peek answer. A fault by its number, on which others rely.
     #[derive(Clone, Copy)]
     struct Row {
         x: u32,
         w: u32,
         read: Result<u32, u64>,
         write: Result<(), u64>,
-        peeks: bool,
+        peek: Option<u32>,
     }
 
     // Where nothing can be read or written, for the same reason.
     const fn refused(x: u32, w: u32, number: u64) -> Row {
-        Row {
-            x,
-            w,
-            read: Err(number),
-            write: Err(number),
-            peeks: false,
-        }
+        window(x, w, Err(number), number)
     }
 
     const fn plain(x: u32, w: u32, number: u32) -> Row {
@@ -43,46 +37,42 @@ mod tests {
             w,
             read: Ok(number),
             write: Ok(()),
-            peeks: true,
+            peek: Some(number),
         }
     }
 
     const fn read_only(x: u32, w: u32, number: u32) -> Row {
         Row {
-            x,
-            w,
-            read: Ok(number),
             write: Err(3),
-            peeks: true,
-        }
-    }
-
-    fn numbered<T>(answer: Result<T, Fault>) -> Result<T, u64> {
-        match answer {
-            Ok(v) => Ok(v),
-            Err(fault) => Err(fault.number()),
+            ..plain(x, w, number)
         }
     }
 
     // 256 * k + i, cut to a byte, plus 3 for each frame k, so that no two frames are alike.
-    fn pattern(heap: Global, length: u32) -> Result<Vec<u8>, AllocError> {
-        let mut bytes = Vec::new(heap);
-        for i in 0..length {
-            bytes.push((i.wrapping_add(3 * (i / 256)) % 256) as u8)?;
-        }
-        Ok(bytes)
+    fn pattern(alloc: Global, length: u32) -> Result<Vec<u8>, AllocError> {
+        (0..length)
+            .map(|i| (i.wrapping_add(3 * (i / 256)) % 256) as u8)
+            .collect(alloc)
     }
 
     // Every row on the same memory: peeks and reads first, since they leave the bytes as they are; then the writes of what
     // was there.
     fn holds<M: Memory>(rt: &impl Abort, memory: &mut M, row: Row) {
-        let x = row.x;
-        let w = row.w;
-        let expected = if row.peeks { row.read.ok() } else { None };
-        assert_eq!(rt; memory.peek(x, w), expected, "peek");
-        assert_eq!(rt; numbered(memory.read(x, w)), row.read, "read");
-        let back = row.read.unwrap_or(0);
-        assert_eq!(rt; numbered(memory.write(x, w, back)), row.write, "write");
+        let Row {
+            x,
+            w,
+            read,
+            write,
+            peek,
+        } = row;
+        assert_eq!(rt; memory.peek(x, w), peek, "peek");
+        assert_eq!(rt; memory.read(x, w).map_err(Fault::number), read, "read");
+        let back = read.unwrap_or(0);
+        assert_eq!(rt;
+            memory.write(x, w, back).map_err(Fault::number),
+            write,
+            "write"
+        );
     }
 
     #[test]
@@ -153,8 +143,8 @@ mod tests {
             memory.bytes(),
             [0xd4, 0xc3, 0xb2, 0xa1, 0xee, 0xee, 0xd4, 0xc3, 0xee].as_slice()
         );
-        assert_eq!(rt; numbered(memory.write(8, 1, 0)), Err(2));
-        assert_eq!(rt; numbered(memory.write(2, 4, 0)), Err(1));
+        assert_eq!(rt; memory.write(8, 1, 0).map_err(Fault::number), Err(2));
+        assert_eq!(rt; memory.write(2, 4, 0).map_err(Fault::number), Err(1));
         assert_eq!(rt;
             memory.bytes(),
             [0xd4, 0xc3, 0xb2, 0xa1, 0xee, 0xee, 0xd4, 0xc3, 0xee].as_slice()
@@ -164,46 +154,45 @@ mod tests {
 
     const fn page(frame: u32) -> Page {
         Page {
-            present: true,
             writable: true,
-            frame,
+            frame: Some(frame),
         }
     }
 
     const fn locked(frame: u32) -> Page {
         Page {
-            present: true,
             writable: false,
-            frame,
+            ..page(frame)
         }
     }
 
     // Over 1,124 bytes, which are four frames and a part of one: pages 0, 2, 6 and 63 are present; 1 and 7 have a lower
-    // page's frame, 3 and 4 none that lies inside, 5 is not marked present, and the last one given is a 65th.
+    // page's frame, 3 and 4 none that lies inside, 5 is given as absent, and the last one given is a 65th.
     fn paged(
-        heap: Global,
+        alloc: Global,
         window: Option<u32>,
         orders: VecDeque<u32>,
     ) -> Result<PagedMemory, AllocError> {
-        let mut pages = Vec::new(heap);
-        for page in [page(1), page(1), locked(3), page(4), page(LAST)] {
-            pages.push(page)?;
-        }
-        for frame in [Page::ABSENT, page(0), page(0)] {
-            pages.push(frame)?;
-        }
-        for _ in 8..63 {
-            pages.push(Page::ABSENT)?;
-        }
-        pages.push(page(2))?;
-        pages.push(page(3))?;
-        Ok(PagedMemory::new(pattern(heap, 1124)?, &pages, window, orders))
+        let lowest = [
+            page(1),
+            page(1),
+            locked(3),
+            page(4),
+            page(LAST),
+            Page::ABSENT,
+            page(0),
+            page(0),
+        ];
+        let mut pages = lowest.to_vec(alloc)?;
+        pages.resize(63, Page::ABSENT)?;
+        pages.extend_from_slice(&[page(2), page(3)])?;
+        Ok(PagedMemory::new(pattern(alloc, 1124)?, &pages, window, orders))
     }
 
     #[test]
     fn paged_accesses(rt: HostRuntime) -> Result<(), Fail> {
-        let heap = rt.alloc();
-        let mut memory = paged(heap, None, VecDeque::new(heap))?;
+        let alloc = rt.alloc();
+        let mut memory = paged(alloc, None, VecDeque::new(alloc))?;
         for row in [
             plain(0, 1, 3),
             plain(0, 2, 0x0403),
@@ -249,16 +238,16 @@ mod tests {
         ] {
             holds(&rt, &mut memory, row);
         }
-        let expected = pattern(heap, 1124)?;
+        let expected = pattern(alloc, 1124)?;
         assert_eq!(rt; memory.bytes(), expected.as_slice());
         Ok(())
     }
 
     #[test]
     fn paged_writes(rt: HostRuntime) -> Result<(), Fail> {
-        let heap = rt.alloc();
-        let mut memory = paged(heap, Some(520), VecDeque::new(heap))?;
-        let mut expected = pattern(heap, 1124)?;
+        let alloc = rt.alloc();
+        let mut memory = paged(alloc, Some(520), VecDeque::new(alloc))?;
+        let mut expected = pattern(alloc, 1124)?;
         assert!(rt; expected.len() == 1124);
         memory.write(255, 1, 0xa1b2_c3d4)?;
         expected[511] = 0xd4;
@@ -274,18 +263,10 @@ mod tests {
         expected[767] = 0xa1;
         assert_eq!(rt; memory.bytes(), expected.as_slice());
         for (x, w, number) in [(512, 4, 3), (520, 4, 3), (256, 1, 2), (1, 4, 1)] {
-            assert_eq!(rt; numbered(memory.write(x, w, 0)), Err(number));
+            assert_eq!(rt; memory.write(x, w, 0).map_err(Fault::number), Err(number));
         }
         assert_eq!(rt; memory.bytes(), expected.as_slice());
         Ok(())
-    }
-
-    fn words(heap: Global, list: &[u32]) -> Result<VecDeque<u32>, AllocFailed<u32>> {
-        let mut queue = VecDeque::new(heap);
-        for word in list {
-            queue.push_back(*word)?;
-        }
-        Ok(queue)
     }
 
     const fn window(x: u32, w: u32, read: Result<u32, u64>, write: u64) -> Row {
@@ -294,14 +275,14 @@ mod tests {
             w,
             read,
             write: Err(write),
-            peeks: false,
+            peek: None,
         }
     }
 
     #[test]
     fn window_in_a_writable_page(rt: HostRuntime) -> Result<(), Fail> {
-        let heap = rt.alloc();
-        let mut memory = paged(heap, Some(16), words(heap, &[7, LAST, 9])?)?;
+        let alloc = rt.alloc();
+        let mut memory = paged(alloc, Some(16), VecDeque::from_array(alloc, [7, LAST, 9])?)?;
         for row in [
             window(16, 4, Ok(7), 4),
             window(16, 1, Err(4), 4),
@@ -323,7 +304,7 @@ mod tests {
         ] {
             holds(&rt, &mut memory, row);
         }
-        let expected = pattern(heap, 1124)?;
+        let expected = pattern(alloc, 1124)?;
         let (bytes, left) = memory.into_parts();
         assert_eq!(rt; bytes.as_slice(), expected.as_slice());
         assert!(rt; left.is_empty());
@@ -332,8 +313,8 @@ mod tests {
 
     #[test]
     fn window_in_another_page(rt: HostRuntime) -> Result<(), Fail> {
-        let heap = rt.alloc();
-        let mut locked = paged(heap, Some(520), words(heap, &[5])?)?;
+        let alloc = rt.alloc();
+        let mut locked = paged(alloc, Some(520), VecDeque::from_array(alloc, [5])?)?;
         for row in [
             window(520, 1, Err(4), 3),
             window(520, 4, Ok(5), 3),
@@ -341,14 +322,14 @@ mod tests {
         ] {
             holds(&rt, &mut locked, row);
         }
-        let mut absent = paged(heap, Some(256), words(heap, &[5])?)?;
+        let mut absent = paged(alloc, Some(256), VecDeque::from_array(alloc, [5])?)?;
         for row in [refused(256, 4, 2), refused(256, 1, 2), plain(0, 1, 3)] {
             holds(&rt, &mut absent, row);
         }
-        let mut past = paged(heap, Some(LAST - 3), words(heap, &[5])?)?;
+        let mut past = paged(alloc, Some(LAST - 3), VecDeque::from_array(alloc, [5])?)?;
         holds(&rt, &mut past, refused(LAST - 3, 4, 2));
         assert_eq!(rt; past.waiting().len(), 1);
-        let mut odd = paged(heap, Some(18), words(heap, &[5])?)?;
+        let mut odd = paged(alloc, Some(18), VecDeque::from_array(alloc, [5])?)?;
         for row in [plain(16, 4, 0x1615_1413), plain(18, 2, 0x1615)] {
             holds(&rt, &mut odd, row);
         }
@@ -359,8 +340,13 @@ mod tests {
 
     #[test]
     fn few_pages_and_few_bytes(rt: HostRuntime) -> Result<(), Fail> {
-        let heap = rt.alloc();
-        let mut one = PagedMemory::new(pattern(heap, 256)?, &[page(0)], None, VecDeque::new(heap));
+        let alloc = rt.alloc();
+        let mut one = PagedMemory::new(
+            pattern(alloc, 256)?,
+            &[page(0)],
+            None,
+            VecDeque::new(alloc),
+        );
         for row in [
             plain(0, 4, 0x0302_0100),
             plain(255, 1, 255),
@@ -369,13 +355,18 @@ mod tests {
             holds(&rt, &mut one, row);
         }
         let mut short = PagedMemory::new(
-            pattern(heap, 255)?,
+            pattern(alloc, 255)?,
             &[page(0)],
             None,
-            VecDeque::new(heap),
+            VecDeque::new(alloc),
         );
         holds(&rt, &mut short, refused(0, 1, 2));
-        let mut none = PagedMemory::new(pattern(heap, 256)?, &[], Some(0), words(heap, &[1])?);
+        let mut none = PagedMemory::new(
+            pattern(alloc, 256)?,
+            &[],
+            Some(0),
+            VecDeque::from_array(alloc, [1])?,
+        );
         holds(&rt, &mut none, refused(0, 4, 2));
         Ok(())
     }

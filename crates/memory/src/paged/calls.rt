@@ -1,10 +1,11 @@
 // Reading, writing and peeking of a paged memory.
-ghost use Rattle.std.specs.Prelude.{◌≡◌, ◌/◌};
+ghost use Rattle.std.specs.Prelude.{◌≡◌, ◌/◌, drop};
+ghost use Rattle.std.specs.List.{slice_get};
 ghost use Rattle.std.specs.Option.{ok_or};
 ghost use Rattle.memory.specs.declared.fault.Fault.TheVariants.{NoOrder};
 ghost use Rattle.memory.specs.Access.{granule};
 ghost use Rattle.memory.specs.Blank.{paged_blank};
-ghost use Rattle.memory.specs.Calls.{first_of, other_words, read_after, read_answer, write_after, write_answer};
+ghost use Rattle.memory.specs.Calls.{read_after, read_answer, write_after, write_answer};
 ghost use Rattle.memory.specs.Meaning.{marks_at};
 ghost use Rattle.memory.specs.Paged.{paged_meaning_of, paged_bytes, paged_written};
 ghost use Rattle.memory.specs.Pages.{is_window, page_at, place_in};
@@ -20,8 +21,8 @@ use std::collections::VecDeque;
 
 // The first waiting word. A queue gives it up without moving the others.
 fn take_word(waiting: &mut VecDeque<u32>) -> Result<u32, Fault>
-    ensures answer { result ≡ ok_or (first_of waiting.old.items) NoOrder }
-    ensures after { waiting.new.items ≡ other_words waiting.old.items }
+    ensures answer { result ≡ ok_or (slice_get waiting.old.items 0) NoOrder }
+    ensures after { waiting.new.items ≡ drop 1 waiting.old.items }
 {
     waiting.pop_front().ok_or(Fault::NoOrder)
 }
@@ -37,19 +38,17 @@ impl PagedMemory {
     fn is_window(&self, x: u32) -> bool
         ensures { result ≡ is_window self.now.window (granule x) }
     {
-        match self.window {
-            Some(window) => window == granule_of(x),
-            None => false,
-        }
+        self.window == Some(granule_of(x))
     }
 
     // What an access at `x` meets.
+    #[tactic(auto, using(crate::specs::Blank::page_of_granule), unfolding(crate::specs::Pages::paged_meaning))]
     fn marks(&self, x: u32) -> Marks
         ensures { result ≡ marks_at (paged_meaning_of self.now) (granule x) }
     {
         let page = self.page(x);
         Marks {
-            present: page.present,
+            present: page.frame.is_some(),
             writable: page.writable,
             window: self.is_window(x),
             waiting: !self.waiting.is_empty(),
@@ -60,7 +59,9 @@ impl PagedMemory {
     fn place(&self, x: u32) -> usize
         ensures { result ≡ place_in self.now.pages x }
     {
-        PAGE_SIZE as usize * self.page(x).frame as usize + (x % PAGE_SIZE) as usize
+        // nothing is looked up where the page is absent
+        let frame = self.page(x).frame.unwrap_or(0);
+        PAGE_SIZE as usize * frame as usize + (x % PAGE_SIZE) as usize
     }
 }
 

@@ -5,7 +5,7 @@ ghost use Rattle.memory.specs.Pages.{window_granule};
 ghost use Rattle.memory.specs.Theorems.{OneWindow, SettlesPages};
 
 use crate::access::granule_of;
-use crate::page::{PAGES, Page, settle};
+use crate::page::{Page, settled};
 use crate::paged::PagedMemory;
 use std::collections::VecDeque;
 
@@ -13,33 +13,31 @@ use std::collections::VecDeque;
 fn window_granule(address: Option<u32>) -> Option<u32>
     ensures { result ≡ window_granule address }
 {
-    match address {
-        Some(x) if x % 4 == 0 => Some(granule_of(x)),
-        _ => None,
-    }
+    address.filter(|x| x % 4 == 0).map(granule_of)
 }
 
 impl PagedMemory {
     // Pages past the 64th are passed over, and those that are not given are absent. Nothing is refused: a page whose frame
     // is not wholly inside the bytes, or is a lower present page's, is absent, and a window whose address is not a
     // multiple of 4 is none.
+    #[tactic(auto, using(crate::proofs::Paging::table_laws))]
     pub fn new(
         bytes: Vec<u8>,
         pages: &[Page],
         window: Option<u32>,
         orders: VecDeque<u32>,
     ) -> PagedMemory
-        ensures meaning { paged_meaning_of result ≡ new_paged bytes.items pages.now window orders.items }
+        ensures meaning { paged_meaning_of result ≡
+            new_paged bytes.items pages.now window orders.items }
         ensures bytes { paged_bytes result ≡ bytes.items }
         ensures waiting { paged_waiting result ≡ orders.items }
         ensures pages { SettlesPages (vec_len bytes) pages.now }
         ensures window { OneWindow (paged_meaning_of result) }
     {
-        let mut table = [Page::ABSENT; PAGES];
-        settle(&mut table, pages, bytes.len());
+        let pages = settled(pages, bytes.len());
         PagedMemory {
             bytes,
-            pages: table,
+            pages,
             window: window_granule(window),
             waiting: orders,
         }
@@ -64,12 +62,6 @@ impl PagedMemory {
         ensures bytes { result.0.items ≡ paged_bytes self }
         ensures waiting { result.1.items ≡ paged_waiting self }
     {
-        let PagedMemory {
-            bytes,
-            pages: _,
-            window: _,
-            waiting,
-        } = self;
-        (bytes, waiting)
+        (self.bytes, self.waiting)
     }
 }

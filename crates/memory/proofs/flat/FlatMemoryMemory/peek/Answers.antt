@@ -1,8 +1,7 @@
-use Rattle.std.proofs.Common.{Some, sym, refl, ap, ◌∙◌}
-use Rattle.memory.specs.Flat.{flat_bytes}
+use Rattle.std.proofs.Common.{sym, refl}
 use Rattle.memory.proofs.Faulting.{met_hidden, met_shown}
-use Rattle.memory.proofs.Flats.{flat_lent, flat_peeks}
-use Rattle.memory.proofs.Numbers.{lent_number}
+use Rattle.memory.proofs.Flats.{flat_found}
+use Rattle.memory.proofs.Views.{found_peek, found_room}
 use Rattle.memory.proofs.flat.FlatMemoryMemory.peek.Goals as goal
 
 pub returns-then-not-shows : goal.returns-then-not-shows
@@ -10,12 +9,10 @@ returns-then-not-shows c = sym (met_hidden _ c.args.x c.args.w c.marks.result c.
 
 pub number_at-requires : goal.number_at-requires
 number_at-requires c =
-    let met = met_shown _ c.args.x c.args.w c.marks.result c.marks.ensures c.if-not-shows.ensures in
-    flat_lent _ _ c.args.x c.args.w met.0 c.deref.result.now c.deref.ensures.value
+    let none = (met_shown _ c.args.x c.args.w c.marks.result c.marks.ensures c.if-not-shows.ensures).0 in
+    found_room (flat_found _ _ c.args.x c.args.w none) c.deref.result.now c.args.x c.deref.ensures.value refl
 
 pub returns : goal.returns
 returns c =
-    let met = met_shown _ c.args.x c.args.w c.marks.result c.marks.ensures c.if-not-shows.ensures in
-    let bs = flat_bytes c.args.self.now in
-    let n = lent_number c.deref.result.now bs c.args.x c.args.x c.args.w c.number_at.result c.number_at.ensures c.deref.ensures.value refl in
-    ap Some n ∙ sym (flat_peeks bs c.args.x c.args.w met.0)
+    let none = (met_shown _ c.args.x c.args.w c.marks.result c.marks.ensures c.if-not-shows.ensures).0 in
+    found_peek (flat_found _ _ c.args.x c.args.w none) c.deref.result.now c.args.x c.deref.ensures.value refl none c.number_at.result c.number_at.ensures

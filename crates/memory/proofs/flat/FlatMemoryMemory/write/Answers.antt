@@ -1,28 +1,31 @@
-use Rattle.std.proofs.Common.{sym, refl, ap, ◌∙◌, arith}
+use Rattle.std.proofs.Common.{◌∙◌, refl, ap, arith}
 use Rattle.std.proofs.lemmas.List.{with_items_is}
 use Rattle.std.proofs.lemmas.Result.{err_from_is_err_and}
 use Rattle.memory.specs.declared.access.Direction.TheVariants.{Write}
-use Rattle.memory.specs.Flat.{flat_bytes, flat_meaning}
-use Rattle.memory.proofs.Faulting.{met_fault, met_none, write_refused}
-use Rattle.memory.proofs.Flats.{flat_keeps, flat_lent, flat_writes}
-use Rattle.memory.proofs.Numbers.{lent_stored}
+use Rattle.memory.specs.Flat.{flat_bytes, flat_meaning, flat_written}
+use Rattle.memory.proofs.Faulting.{met_none, met_write_fault}
+use Rattle.memory.proofs.Flats.{flat_found}
+use Rattle.memory.proofs.Views.{found_room, found_write}
 use Rattle.memory.proofs.flat.FlatMemoryMemory.write.Goals as goal
 
 pub returns-in_err-check : goal.returns-in_err-check
+unfolding flat_written
 returns-in_err-check c =
     let p = err_from_is_err_and c.from_residual.result c.from_residual.ensures.1 in
-    let f = met_fault _ c.args.x c.args.w c.marks.result c.marks.ensures Write _ c.in_err-check.ensures.answer in
-    let r = write_refused _ c.args.x c.args.w c.args.v _ f in
-    record { answer = rw (p.1, p.2) (sym r.0); after = sym r.1; bytes = sym (flat_keeps _ c.args.x c.args.w c.args.v _ f) }
+    let r = met_write_fault _ c.args.x c.args.w c.marks.result c.marks.ensures c.args.v _ c.in_err-check.ensures.answer in
+    record { answer = rw (p.1, p.2) r.0; after = r.1; bytes = r.2 _ c.args.x }
 
 pub store_at-requires : goal.store_at-requires
 store_at-requires c =
-    flat_lent _ Write c.args.x c.args.w (met_none _ c.args.x c.args.w c.marks.result c.marks.ensures Write _ c.in_ok-check.ensures.answer) c.deref_mut.result.now c.deref_mut.ensures.value
+    let none = met_none _ c.args.x c.args.w c.marks.result c.marks.ensures Write _ c.in_ok-check.ensures.answer in
+    found_room (flat_found _ Write c.args.x c.args.w none) c.deref_mut.result.now c.args.x c.deref_mut.ensures.value refl
 
 pub returns : goal.returns
+unfolding flat_written
 returns c =
+    let left = with_items_is c.args.self.now.bytes c.store_at.new.bytes (omega arith) in
+    let none = met_none _ c.args.x c.args.w c.marks.result c.marks.ensures Write _ c.in_ok-check.ensures.answer in
     let bs = flat_bytes c.args.self.now in
-    let left = with_items_is c.args.self.now.bytes c.store_at.new.bytes (omega arith)
-    ∙ lent_stored c.deref_mut.result.now bs c.store_at.new.bytes c.args.x c.args.x c.args.w c.args.v c.store_at.ensures c.deref_mut.ensures.value refl in
-    let r = flat_writes bs c.args.x c.args.w c.args.v (met_none _ c.args.x c.args.w c.marks.result c.marks.ensures Write _ c.in_ok-check.ensures.answer) in
-    record { answer = sym r.0; after = ap flat_meaning left ∙ sym r.1; bytes = left ∙ sym r.2 }
+    let found = flat_found bs Write c.args.x c.args.w none in
+    let r = found_write found c.deref_mut.result.now c.args.x c.deref_mut.ensures.value refl none c.store_at.new.bytes c.args.v c.store_at.ensures in
+    record { answer = r.0; after = ap flat_meaning left ∙ r.1; bytes = left ∙ r.2 }
