@@ -21,6 +21,7 @@ fn words() -> [u64; 3]
 
 fn main(rt: HostRuntime) -> io::Result<()> {
     for word in words() {
+        // two arms, since what they show is of two types
         match unpack(word) {
             Ok(i) => println!(rt; "0x{word:016x} is {i}")?,
             Err(refusal) => println!(rt; "0x{word:016x} is {refusal}")?,

@@ -6,25 +6,26 @@ ghost use Rattle.std.specs.Prelude.{◌≡◌};
 ghost use Rattle.host.specs.Exports.{over, unpack_number, unpack_fields};
 
 use isa::codec::unpack;
+use isa::fields::Fields;
 
 // Writes the values over the front of the slice, as many as it has room for.
+#[tactic(auto, using(crate::proofs::Fronts::over_front))]
 fn fill(slice: &mut [u64], values: &[u64])
     ensures { slice.new ≡ over values.now slice.old }
 {
-    for i in 0..slice.len().min(values.len()) {
-        slice[i] = values[i];
-    }
+    let count = slice.len().min(values.len());
+    slice[..count].copy_from_slice(&values[..count]);
 }
 
 // Answers 0 and writes kind, width, d, a, b, home and imm into `fields`, as many as it has room for; or answers the
-// refusal's number and writes nothing.
+// refusal's number and writes nothing. A number stands for the Result, as the C interface needs.
 pub fn nadvoszip_unpack(word: u64, fields: &mut [u64]) -> u64
     ensures number { result ≡ unpack_number word }
     ensures fields { fields.new ≡ unpack_fields word fields.old }
 {
     match unpack(word) {
         Ok(i) => {
-            let f = i.fields();
+            let f = Fields::from(i);
             fill(fields, &[f.kind, f.width, f.d, f.a, f.b, f.home, f.imm]);
             0
         }

@@ -19,7 +19,7 @@ pub ok_answer : (n : ℕ) (f g : Fields) → Ok g ≡ answer n f → (n ≡ 0) �
 ok_answer n f g e =
     elim (cases_Bool (eqb n 0)) [
       | inl t ↦ let p = e ∙ cond-true (eqb n 0) (Ok f) (Err n) t in (eqb-true n 0 t, cc)
-      | inr t ↦ let p = e ∙ cond-false (eqb n 0) (Ok f) (Err n) t in absurd (let z : ◌≡◌ {A = ℕ} 0 1 = cc in omega arith)
+      | inr t ↦ let p = e ∙ cond-false (eqb n 0) (Ok f) (Err n) t in absurd (grind arith)
     ]
 
 -- the first broken rule of a known kind

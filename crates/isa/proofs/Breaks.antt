@@ -1,6 +1,6 @@
 -- What the rules and the table say together: fields that fit break no rule, and the others break the first that is answered.
-use Rattle.std.proofs.Common.{◌≡◌, ℕ, ◌<◌, ◌≤◌, Bool, true, false, cond, not, ◌&&◌, ◌||◌, ltb, leb, refl, arith}
-use Rattle.std.proofs.lemmas.Bool.{or_parts, and_parts, leb-true, ltb-false, lt-ltb, le-ltb, not-true, or_right}
+use Rattle.std.proofs.Common.{◌≡◌, ℕ, ◌<◌, ◌≤◌, Bool, true, false, cond, not, ◌&&◌, ◌||◌, ltb, leb, is_some, Some, None, Option, sym, refl, ◌∙◌, arith}
+use Rattle.std.proofs.lemmas.Bool.{or_parts, and_parts, leb-true, ltb-false, le-leb, le-ltb, not-true, true≢false}
 use Rattle.std.proofs.lemmas.Bool.Decides.{nat_tests}
 use Rattle.isa.specs.declared.kind.Kind.{Kind}
 use Rattle.isa.specs.declared.kind.Width.{Width}
@@ -8,32 +8,37 @@ use Rattle.isa.specs.declared.table.Span.{Span}
 use Rattle.isa.specs.declared.table.Row.{Row}
 use Rattle.isa.specs.declared.fields.Fields.{Fields}
 use Rattle.isa.specs.Kinds.{kind_number, width_number}
-use Rattle.isa.specs.Table.{row_of, outside, misses, strays, is_used}
+use Rattle.isa.specs.Table.{row_of, outside, misses, strays}
 use Rattle.isa.specs.Rules.{plain, bad_register, bad_rest, broken, fits, legal}
 use Rattle.isa.proofs.Numbers.{each_kind}
 
+-- the largest number that a field may hold
+abbrev pub top : Option Span → ℕ
+top None = 0
+top (Some s) = s.high
+
 -- the ends of a row's spans are within the bits of the fields
 pub record Narrow (r : Row) : Type 0 where
-  pub width : r.width.high ≤ 2
-  pub d : r.d.high ≤ 63
-  pub a : r.a.high ≤ 63
-  pub b : r.b.high ≤ 63
-  pub imm : r.imm.high ≤ 65535
+  pub width : top r.width ≤ 2
+  pub d : top r.d ≤ 63
+  pub a : top r.a ≤ 63
+  pub b : top r.b ≤ 63
+  pub imm : top r.imm ≤ 65535
 
 abbrev is_narrow : Row → Bool
 is_narrow r =
-    leb r.width.high 2
-    && (leb r.d.high 63 && (leb r.a.high 63 && (leb r.b.high 63 && leb r.imm.high 65535)))
+    leb (top r.width) 2
+    && (leb (top r.d) 63 && (leb (top r.a) 63 && (leb (top r.b) 63 && leb (top r.imm) 65535)))
 
 pub narrow : (k : Kind) (h : Bool) → Narrow (row_of k h)
 narrow k h =
     let P : Bool → Type 0 = λ b. is_narrow (row_of k b) ≡ true in
     let t : P h = elim h as P [ true ↦ each_kind (λ k. is_narrow (row_of k true)) refl k | false ↦ each_kind (λ k. is_narrow (row_of k false)) refl k ] in
     let r = row_of k h in
-    let w = and_parts (leb r.width.high 2) _ t in
-    let d = and_parts (leb r.d.high 63) _ w.1 in
-    let a = and_parts (leb r.a.high 63) _ d.1 in
-    let b = and_parts (leb r.b.high 63) _ a.1 in
+    let w = and_parts (leb (top r.width) 2) _ t in
+    let d = and_parts (leb (top r.d) 63) _ w.1 in
+    let a = and_parts (leb (top r.a) 63) _ d.1 in
+    let b = and_parts (leb (top r.b) 63) _ a.1 in
     record {
       width = leb-true _ _ w.0;
       d = leb-true _ _ d.0;
@@ -68,17 +73,13 @@ within_fits r f t =
     }
 
 -- a field in its span is at most the span's end
-pub at_most : (s : Span) (x : ℕ) → outside s x ≡ false → x ≤ s.high
-at_most s x o = ltb-false s.high x (or_parts (ltb x s.low) _ o).1
+pub at_most : (s : Option Span) (x : ℕ) → outside s x ≡ false → x ≤ top s
+at_most None x o = ltb-false 0 x o
+at_most (Some s) x o = ltb-false s.high x (or_parts (ltb x s.low) _ o).1
 
 -- fields within their spans break no rule
 pub unbroken : (r : Row) (f : Fields) → Within r f → broken false r f ≡ 0
 unbroken r f w = rw (w.width, w.d, w.a, w.b, w.imm, w.home) (grind (arith, nat_tests))
-
--- where the fields do not fit or a zero bit is set, a bit more there changes nothing
-pub first_broken : (stray : Bool) (r : Row) (f : Fields) → (stray || not (fits r f)) ≡ true → broken stray r f ≡ broken true r f
-first_broken true r f t = refl
-first_broken false r f t = grind (arith, nat_tests)
 
 pub broken_positive : (r : Row) (f : Fields) → 0 < broken true r f
 broken_positive r f = grind (arith, nat_tests)
@@ -100,10 +101,6 @@ small_within r f n w =
       home = omega (arith, ltb-false 1023 f.home w.home);
       imm = omega (arith, n.imm, at_most r.imm f.imm w.imm);
     }
-
--- a number that is no width is outside every kind's widths
-pub past_widths : (r : Row) (x : ℕ) → Narrow r → 2 < x → outside r.width x ≡ true
-past_widths r x n h = or_right (ltb x r.width.low) _ (lt-ltb r.width.high x (omega (arith, n.width)))
 
 -- fields within the spans of a kind are those of an instruction
 pub legal_within : (k : Kind) (w : Width) (f : Fields) → Within (row_of k (ltb 31 f.d)) f → width_number w ≡ f.width → legal k w f.d f.a f.b f.imm ≡ 0
@@ -133,9 +130,27 @@ within_unbroken r f e =
     let i = or_parts (outside r.imm f.imm) _ s''.1 in
     record {
       width = u.0;
-      d = neither (is_used r.d) _ m.0 s.0;
-      a = neither (is_used r.a) _ m'.0 s'.0;
-      b = neither (is_used r.b) _ m'.1 s''.0;
+      d = neither (is_some r.d) _ m.0 s.0;
+      a = neither (is_some r.a) _ m'.0 s'.0;
+      b = neither (is_some r.b) _ m'.1 s''.0;
       imm = i.0;
       home = i.1;
     }
+
+-- and so they fit
+fits_within : (r : Row) (f : Fields) → Within r f → fits r f ≡ true
+fits_within r f w = rw (w.width, w.d, w.a, w.b, w.imm) (le-leb f.home 1023 (ltb-false 1023 f.home w.home))
+
+-- a zero bit beside fields that break a rule changes nothing
+same_break : (p q s : Bool) → ((p ≡ false) × (q ≡ false) × (s ≡ false) → ⊥) → ◌≡◌ {A = ℕ} (cond p 12 (cond q 13 (cond s 14 0))) (cond p 12 (cond q 13 14))
+same_break true q s h = refl
+same_break false true s h = refl
+same_break false false true h = refl
+same_break false false false h = absurd (h (refl, refl, refl))
+
+-- where the fields do not fit or a zero bit is set, a bit more there changes nothing
+pub first_broken : (stray : Bool) (r : Row) (f : Fields) → (stray || not (fits r f)) ≡ true → broken stray r f ≡ broken true r f
+first_broken true r f t = refl
+first_broken false r f t =
+    same_break (outside r.width f.width) (bad_register r f) (bad_rest r f)
+    (λ u. let e : broken false r f ≡ 0 = rw (u.0, u.1, u.2) refl in true≢false (sym (fits_within r f (within_unbroken r f e)) ∙ not-true _ t))

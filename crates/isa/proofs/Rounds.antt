@@ -74,7 +74,7 @@ same_ok f g e = cc
 -- an answer that has an instruction's fields is that instruction
 answers : (r : Result Instruction WordRefusal) (i : Instruction) → answered r ≡ Ok (fields_of i) → r ≡ Ok i
 answers (Ok j) i e = ap Ok (known j i (same_ok (fields_of j) (fields_of i) e))
-answers (Err e) i p = absurd (let z : ◌≡◌ {A = ℕ} 0 1 = cc in omega arith)
+answers (Err e) i p = absurd (grind arith)
 
 pub one_to_one : OneToOne
 one_to_one =

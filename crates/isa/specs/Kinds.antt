@@ -1,9 +1,12 @@
 -- The numbers of the kinds and the widths, and back.
-use Rattle.std.specs.Prelude.{ℕ, zero, suc, List, [], ◌∷◌, Some, None, Option}
+use Rattle.std.specs.Prelude.{ℕ, List, [], ◌∷◌, Option, Result, slice_get}
+use Rattle.std.specs.Option.{ok_or}
 use Rattle.isa.specs.declared.kind.Kind.{Kind}
 use Rattle.isa.specs.declared.kind.Kind.TheVariants.{Halt, Const, Add, Sub, And, Or, Xor, Shl, Shr, Below, Load, Store, Beq, Bne, Jump, Early, Check, Take, Reload, Back}
 use Rattle.isa.specs.declared.kind.Width.{Width}
 use Rattle.isa.specs.declared.kind.Width.TheVariants.{One, Two, Four}
+use Rattle.isa.specs.declared.refusal.WordRefusal.{WordRefusal}
+use Rattle.isa.specs.declared.refusal.WordRefusal.TheVariants as refusals
 
 abbrev pub kind_number : Kind → ℕ
 kind_number Halt = 0
@@ -37,21 +40,23 @@ width_bytes One = 1
 width_bytes Two = 2
 width_bytes Four = 4
 
--- the entry at a place of a list, or nothing past its end
-abbrev pub entry : {A : Type 0} → List A → ℕ → Option A
-entry [] n = None
-entry (x ∷ xs) zero = Some x
-entry (x ∷ xs) (suc n) = entry xs n
-
 -- the kinds in the order of their numbers
 abbrev pub kinds : List Kind
 kinds = Halt ∷ Const ∷ Add ∷ Sub ∷ And ∷ Or ∷ Xor ∷ Shl ∷ Shr ∷ Below ∷ Load ∷ Store ∷ Beq ∷ Bne ∷ Jump ∷ Early ∷ Check ∷ Take ∷ Reload ∷ Back ∷ []
 
 abbrev pub kind_at : ℕ → Option Kind
-kind_at n = entry kinds n
+kind_at n = slice_get kinds n
+
+-- what reading a number as a kind answers
+abbrev pub kind_read : ℕ → Result Kind WordRefusal
+kind_read n = ok_or (kind_at n) refusals.Kind
 
 abbrev pub widths : List Width
 widths = One ∷ Two ∷ Four ∷ []
 
 abbrev pub width_at : ℕ → Option Width
-width_at n = entry widths n
+width_at n = slice_get widths n
+
+-- what reading a number as a width answers
+abbrev pub width_read : ℕ → Result Width WordRefusal
+width_read n = ok_or (width_at n) refusals.Width

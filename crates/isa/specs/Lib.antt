@@ -1,6 +1,7 @@
 pub mod Kinds
 pub mod Layout
 pub mod Mnemonics
+pub mod Naming
 pub mod Refusals
 pub mod Rules
 pub mod Table

@@ -11,23 +11,24 @@ use crate::instruction::Instruction;
 use crate::kind::{Kind, Width};
 use crate::refusal::WordRefusal;
 
-impl Instruction {
-    pub fn fields(&self) -> Fields
-        ensures { result ≡ fields_of self.now }
-    {
+impl From<Instruction> for Fields {
+    ghost from_gives = { λ i f. f ≡ fields_of i };
+
+    fn from(i: Instruction) -> Self {
         Fields {
-            kind: self.kind.number(),
-            width: self.width.number(),
-            d: u64::from(self.d),
-            a: u64::from(self.a),
-            b: u64::from(self.b),
-            home: u64::from(self.home),
-            imm: u64::from(self.imm),
+            kind: i.kind.number(),
+            width: i.width.number(),
+            d: u64::from(i.d),
+            a: u64::from(i.a),
+            b: u64::from(i.b),
+            home: u64::from(i.home),
+            imm: u64::from(i.imm),
         }
     }
 }
 
-// The instruction of fields that fit the row of their kind.
+// The instruction of fields that fit the row of their kind. Casts, which are proved to lose nothing: `try_from` would add
+// refusals that never come.
 fn build(kind: Kind, width: Width, f: &Fields) -> Instruction
     requires kind { kind_number kind ≡ f.now.kind }
     requires width { width_number width ≡ f.now.width }
@@ -49,20 +50,17 @@ fn build(kind: Kind, width: Width, f: &Fields) -> Instruction
 fn read(f: &Fields, stray: bool) -> Result<Instruction, WordRefusal>
     ensures { answered result ≡ read_as stray f.now }
 {
-    let Some(kind) = Kind::numbered(f.kind) else {
-        return Err(WordRefusal::Kind);
-    };
+    let kind = Kind::try_from(f.kind)?;
     let row = kind.row(f.d > 31);
-    let Some(width) = Width::numbered(f.width) else {
-        return Err(WordRefusal::Width);
-    };
+    let width = Width::try_from(f.width)?;
     if stray || !row.fits(f) {
         return Err(row.refusal(f));
     }
     Ok(build(kind, width, f))
 }
 
-// The instruction of these fields, or the first rule that they break.
+// The instruction of these fields, or the first rule that they break. Compose, pack and unpack have the
+// names of these calls in the rules: a conversion would not say which number is a word, or read fields of any numbers.
 pub fn compose(f: &Fields) -> Result<Instruction, WordRefusal>
     ensures { answered result ≡ composed f.now }
 {
@@ -82,13 +80,13 @@ pub fn pack(i: &Instruction) -> u64
 fn join(i: &Instruction) -> u64
     ensures { result ≡ packed i.now }
 {
-    ((i.kind as u64) << 59)
-        + ((i.width as u64) << 57)
-        + ((i.d as u64) << 51)
-        + ((i.a as u64) << 45)
-        + ((i.b as u64) << 39)
-        + ((i.home as u64) << 29)
-        + i.imm as u64
+    (i.kind.number() << 59)
+        + (i.width.number() << 57)
+        + (u64::from(i.d) << 51)
+        + (u64::from(i.a) << 45)
+        + (u64::from(i.b) << 39)
+        + (u64::from(i.home) << 29)
+        + u64::from(i.imm)
 }
 
 // The fields of a word, without its thirteen zero bits.

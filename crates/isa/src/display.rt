@@ -2,10 +2,13 @@
 ghost use Rattle.std.specs.Prelude.{◌≡◌, Some};
 ghost use Rattle.isa.specs.Mnemonics.{mnemonic_of};
 ghost use Rattle.isa.specs.Texts.{address_text, home_text, instruction_text, operands_text, register_text};
+ghost use Rattle.isa.specs.Naming.{NamesKind, unknown_mnemonic_text};
 
 use crate::instruction::Instruction;
 use crate::kind::Kind;
+use std::error::Error;
 use std::fmt;
+use std::str::FromStr;
 
 impl Kind {
     // The name by which text calls the kind.
@@ -34,6 +37,43 @@ impl Kind {
             Kind::Reload => "reload",
             Kind::Back => "back",
         }
+    }
+}
+
+impl fmt::Display for Kind {
+    ghost output = { λ k. Some (mnemonic_of k) };
+
+    fn fmt<W: fmt::Write>(&self, f: &mut fmt::Formatter<W>) -> fmt::Result {
+        f.write_str(self.mnemonic())
+    }
+}
+
+// A text by which no kind is called.
+#[derive(Clone, Copy, PartialEq, Eq, Debug)]
+pub struct UnknownMnemonic;
+
+// By hand, as every Display here: a derived one would not promise the text.
+impl fmt::Display for UnknownMnemonic {
+    ghost output = { λ _. Some unknown_mnemonic_text };
+
+    fn fmt<W: fmt::Write>(&self, f: &mut fmt::Formatter<W>) -> fmt::Result {
+        f.write_str("no kind has this mnemonic")
+    }
+}
+
+impl Error for UnknownMnemonic {}
+
+impl FromStr for Kind {
+    type Err = UnknownMnemonic;
+
+    ghost from_str_gives = { NamesKind };
+
+    fn from_str(text: &str) -> Result<Self, UnknownMnemonic> {
+        Kind::ALL
+            .iter()
+            .copied()
+            .find(|kind| kind.mnemonic() == text)
+            .ok_or(UnknownMnemonic)
     }
 }
 
@@ -69,8 +109,7 @@ impl fmt::Display for Register {
     ghost output = { λ x. Some (register_text x.0) };
 
     fn fmt<W: fmt::Write>(&self, f: &mut fmt::Formatter<W>) -> fmt::Result {
-        let number = self.0;
-        write!(f, " r{number}")
+        write!(f, " r{}", self.0)
     }
 }
 
@@ -82,11 +121,10 @@ impl fmt::Display for Home {
     ghost output = { λ x. Some (home_text x.0) };
 
     fn fmt<W: fmt::Write>(&self, f: &mut fmt::Formatter<W>) -> fmt::Result {
-        let place = self.0;
-        if place == 0 {
+        if self.0 == 0 {
             return Ok(());
         }
-        write!(f, " @{place}")
+        write!(f, " @{}", self.0)
     }
 }
 
@@ -127,9 +165,6 @@ impl fmt::Display for Instruction {
     ghost output = { λ i. Some (instruction_text i) };
 
     fn fmt<W: fmt::Write>(&self, f: &mut fmt::Formatter<W>) -> fmt::Result {
-        let mnemonic = self.kind.mnemonic();
-        let operands = Operands(*self);
-        let home = Home(self.home);
-        write!(f, "{mnemonic}{operands}{home}")
+        write!(f, "{}{}{}", self.kind, Operands(*self), Home(self.home))
     }
 }

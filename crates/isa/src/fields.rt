@@ -1,5 +1,6 @@
-// The seven fields of a word as plain numbers of any size, of which not all make an instruction.
-#[derive(Clone, Copy, PartialEq, Eq, Debug)]
+// The seven fields of a word as plain numbers of any size, of which not all make an instruction. Kind and width are
+// numbers too, no enums: fields with a number that names none are refused, and so there must be such fields.
+#[derive(Clone, Copy, PartialEq, Eq, Debug, Default)]
 pub struct Fields {
     pub kind: u64,
     pub width: u64,
@@ -9,3 +10,10 @@ pub struct Fields {
     pub home: u64,
     pub imm: u64,
 }
+
+// The largest numbers that an instruction may have in these fields.
+pub const MOST_REGISTER: u64 = 63;
+
+pub const MOST_HOME: u64 = 1023;
+
+pub const MOST_IMM: u64 = 65535;

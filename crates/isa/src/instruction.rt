@@ -5,7 +5,7 @@ ghost use Rattle.isa.specs.Rules.{legal};
 use crate::kind::{Kind, Width};
 
 // `imm` is the raw 16 bits, be it a number, an offset or a position; `home` is the source place that the instruction came from.
-#[derive(Clone, Copy)]
+#[derive(Clone, Copy, PartialEq, Eq, Debug)]
 pub struct Instruction {
     pub kind: Kind,
     pub width: Width,

@@ -1,8 +1,11 @@
 // The kinds of an instruction and the widths of an access, with their numbers in a word.
 ghost use Rattle.std.specs.Prelude.{◌≡◌};
-ghost use Rattle.isa.specs.Kinds.{kind_number, kind_at, width_number, width_at, width_bytes};
+ghost use Rattle.isa.specs.Kinds.{kind_number, kind_read, width_number, width_read, width_bytes};
 
-#[derive(Clone, Copy, Debug)]
+use crate::refusal::WordRefusal;
+
+// In the order of their numbers, from 0 up.
+#[derive(Clone, Copy, PartialEq, Eq, Debug)]
 pub enum Kind {
     Halt,
     Const,
@@ -27,78 +30,86 @@ pub enum Kind {
 }
 
 impl Kind {
+    // Every kind, at the place of its number.
+    pub const ALL: [Kind; 20] = [
+        Kind::Halt,
+        Kind::Const,
+        Kind::Add,
+        Kind::Sub,
+        Kind::And,
+        Kind::Or,
+        Kind::Xor,
+        Kind::Shl,
+        Kind::Shr,
+        Kind::Below,
+        Kind::Load,
+        Kind::Store,
+        Kind::Beq,
+        Kind::Bne,
+        Kind::Jump,
+        Kind::Early,
+        Kind::Check,
+        Kind::Take,
+        Kind::Reload,
+        Kind::Back,
+    ];
+
     pub fn number(self) -> u64
         ensures { result ≡ kind_number self }
     {
         self as u64
     }
+}
 
-    pub fn numbered(n: u64) -> Option<Kind>
-        ensures { result ≡ kind_at n }
-    {
-        match n {
-            0 => Some(Kind::Halt),
-            1 => Some(Kind::Const),
-            2 => Some(Kind::Add),
-            3 => Some(Kind::Sub),
-            4 => Some(Kind::And),
-            5 => Some(Kind::Or),
-            6 => Some(Kind::Xor),
-            7 => Some(Kind::Shl),
-            8 => Some(Kind::Shr),
-            9 => Some(Kind::Below),
-            10 => Some(Kind::Load),
-            11 => Some(Kind::Store),
-            12 => Some(Kind::Beq),
-            13 => Some(Kind::Bne),
-            14 => Some(Kind::Jump),
-            15 => Some(Kind::Early),
-            16 => Some(Kind::Check),
-            17 => Some(Kind::Take),
-            18 => Some(Kind::Reload),
-            19 => Some(Kind::Back),
-            _ => None,
-        }
+impl TryFrom<u64> for Kind {
+    type Error = WordRefusal;
+
+    ghost try_from_gives = { λ n r. r ≡ kind_read n };
+
+    #[tactic(auto, using(crate::proofs::Numbers::copied_item))]
+    fn try_from(number: u64) -> Result<Self, WordRefusal> {
+        Kind::ALL
+            .get(number as usize)
+            .copied()
+            .ok_or(WordRefusal::Kind)
     }
 }
 
 // How many bytes an access touches.
 #[derive(Clone, Copy, PartialEq, Eq, Debug)]
 pub enum Width {
-    One,
-    Two,
-    Four,
+    One = 1,
+    Two = 2,
+    Four = 4,
 }
 
 impl Width {
-    pub(crate) fn number(self) -> u64
+    // Every width, at the place of its number.
+    const ALL: [Width; 3] = [Width::One, Width::Two, Width::Four];
+
+    // 0, 1 and 2 for 1, 2 and 4 bytes.
+    pub fn number(self) -> u64
         ensures { result ≡ width_number self }
     {
-        match self {
-            Width::One => 0,
-            Width::Two => 1,
-            Width::Four => 2,
-        }
-    }
-
-    pub(crate) fn numbered(n: u64) -> Option<Width>
-        ensures { result ≡ width_at n }
-    {
-        match n {
-            0 => Some(Width::One),
-            1 => Some(Width::Two),
-            2 => Some(Width::Four),
-            _ => None,
-        }
+        u64::from(self.bytes() / 2)
     }
 
     pub fn bytes(self) -> u32
         ensures { result ≡ width_bytes self }
     {
-        match self {
-            Width::One => 1,
-            Width::Two => 2,
-            Width::Four => 4,
-        }
+        self as u32
+    }
+}
+
+impl TryFrom<u64> for Width {
+    type Error = WordRefusal;
+
+    ghost try_from_gives = { λ n r. r ≡ width_read n };
+
+    fn try_from(number: u64) -> Result<Self, WordRefusal> {
+        Width::ALL
+            .get(number as usize)
+            .copied()
+            .ok_or(WordRefusal::Width)
     }
 }

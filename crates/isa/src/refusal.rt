@@ -2,30 +2,27 @@
 ghost use Rattle.std.specs.Prelude.{◌≡◌, Some};
 ghost use Rattle.isa.specs.Refusals.{reason_of, refusal_number, refusal_text};
 
+use std::error::Error;
 use std::fmt;
 
+// Each with its number.
 #[derive(Clone, Copy, PartialEq, Eq, Debug)]
 pub enum WordRefusal {
     // the kind is above 19
-    Kind,
+    Kind = 11,
     // the width is above 2, or not 0 in a kind without one
-    Width,
+    Width = 12,
     // a register that the kind uses is outside its range
-    Register,
+    Register = 13,
     // an unused field or a zero bit is not 0, or home or imm is too large
-    Rest,
+    Rest = 14,
 }
 
 impl WordRefusal {
     pub fn number(self) -> u64
         ensures { result ≡ refusal_number self }
     {
-        match self {
-            WordRefusal::Kind => 11,
-            WordRefusal::Width => 12,
-            WordRefusal::Register => 13,
-            WordRefusal::Rest => 14,
-        }
+        self as u64
     }
 
     // The broken rule in words.
@@ -42,6 +39,7 @@ impl WordRefusal {
     }
 }
 
+// By hand: a derived Display would not promise the text.
 impl fmt::Display for WordRefusal {
     ghost output = { λ e. Some (refusal_text e) };
 
@@ -51,3 +49,5 @@ impl fmt::Display for WordRefusal {
         write!(f, "refused {number}: {reason}")
     }
 }
+
+impl Error for WordRefusal {}

@@ -1,68 +1,77 @@
 // The table of the kinds: which numbers each field may hold.
 ghost use Rattle.std.specs.Prelude.{◌≡◌, true};
-ghost use Rattle.isa.specs.Table.{row_of, row_from, outside, misses, operand};
+ghost use Rattle.isa.specs.Table.{leaves_out, row_of, row_from, outside, misses, operand};
 ghost use Rattle.isa.specs.Rules.{fits, broken};
 ghost use Rattle.isa.specs.Refusals.{refusal_number};
 
-use crate::fields::Fields;
+use crate::fields::{Fields, MOST_HOME};
 use crate::kind::Kind;
 use crate::refusal::WordRefusal;
 
-// The numbers that a field may hold, from `low` to `high`; 0 to 0 where the kind does not use the field.
+// The numbers that a field may hold, from `low` to `high`.
 #[derive(Clone, Copy)]
 pub(crate) struct Span {
     pub low: u16,
     pub high: u16,
 }
 
-const NONE: Span = Span { low: 0, high: 0 };
+const WIDTHS: Option<Span> = Some(Span { low: 0, high: 2 });
 
-const WIDTHS: Span = Span { low: 0, high: 2 };
+const WRITTEN: Option<Span> = Some(Span { low: 1, high: 31 });
 
-const WRITTEN: Span = Span { low: 1, high: 31 };
+const SOURCE: Option<Span> = Some(Span { low: 0, high: 31 });
 
-const SOURCE: Span = Span { low: 0, high: 31 };
+const SHADOW: Option<Span> = Some(Span { low: 32, high: 63 });
 
-const SHADOW: Span = Span { low: 32, high: 63 };
+const ANY: Option<Span> = Some(Span { low: 0, high: 63 });
 
-const ANY: Span = Span { low: 0, high: 63 };
+const RESULT: Option<Span> = Some(Span { low: 1, high: 63 });
 
-const RESULT: Span = Span { low: 1, high: 63 };
-
-const NUMBER: Span = Span {
+const NUMBER: Option<Span> = Some(Span {
     low: 0,
     high: 65535,
-};
-
-const HOMES: u64 = 1023;
+});
 
 impl Span {
-    pub(crate) fn outside(self, x: u64) -> bool
-        ensures { result ≡ outside self x }
+    pub(crate) fn leaves_out(self, x: u64) -> bool
+        ensures { result ≡ leaves_out self x }
     {
         x < u64::from(self.low) || x > u64::from(self.high)
     }
-
-    // The kind uses the field, and x is outside its span.
-    pub(crate) fn misses(self, x: u64) -> bool
-        ensures { result ≡ misses self x }
-    {
-        self.high > 0 && self.outside(x)
-    }
 }
 
-// One row of the table.
+// x is outside the span of its field; a field that the kind does not use holds 0.
+fn outside(field: Option<Span>, x: u64) -> bool
+    ensures { result ≡ outside field x }
+{
+    field.map_or(x > 0, |span| span.leaves_out(x))
+}
+
+// The kind uses the field, and x is outside its span.
+fn misses(field: Option<Span>, x: u64) -> bool
+    ensures { result ≡ misses field x }
+{
+    field.is_some_and(|span| span.leaves_out(x))
+}
+
+// One row of the table: the span of each field, or nothing where the kind does not use the field.
 #[derive(Clone, Copy)]
 pub(crate) struct Row {
-    pub width: Span,
-    pub d: Span,
-    pub a: Span,
-    pub b: Span,
-    pub imm: Span,
+    pub width: Option<Span>,
+    pub d: Option<Span>,
+    pub a: Option<Span>,
+    pub b: Option<Span>,
+    pub imm: Option<Span>,
 }
 
 impl Row {
-    pub(crate) fn new(width: Span, d: Span, a: Span, b: Span, imm: Span) -> Row
+    pub(crate) fn new(
+        width: Option<Span>,
+        d: Option<Span>,
+        a: Option<Span>,
+        b: Option<Span>,
+        imm: Option<Span>,
+    ) -> Row
         ensures { result ≡ row_from width d a b imm }
     {
         Row {
@@ -78,22 +87,22 @@ impl Row {
     pub(crate) fn fits(self, f: &Fields) -> bool
         ensures { result ≡ fits self f.now }
     {
-        !self.width.outside(f.width)
-            && !self.d.outside(f.d)
-            && !self.a.outside(f.a)
-            && !self.b.outside(f.b)
-            && !self.imm.outside(f.imm)
-            && f.home <= HOMES
+        !outside(self.width, f.width)
+            && !outside(self.d, f.d)
+            && !outside(self.a, f.a)
+            && !outside(self.b, f.b)
+            && !outside(self.imm, f.imm)
+            && f.home <= MOST_HOME
     }
 
     // The first rule that is broken by fields which do not fit, or whose word has a bit where zeros belong.
     pub(crate) fn refusal(self, f: &Fields) -> WordRefusal
         ensures { refusal_number result ≡ broken true self f.now }
     {
-        if self.width.outside(f.width) {
+        if outside(self.width, f.width) {
             return WordRefusal::Width;
         }
-        if self.d.misses(f.d) || self.a.misses(f.a) || self.b.misses(f.b) {
+        if misses(self.d, f.d) || misses(self.a, f.a) || misses(self.b, f.b) {
             return WordRefusal::Register;
         }
         WordRefusal::Rest
@@ -101,7 +110,7 @@ impl Row {
 }
 
 // What an operation may read: shadows only where it writes one.
-fn operand(shadow: bool) -> Span
+fn operand(shadow: bool) -> Option<Span>
     ensures { result ≡ operand shadow }
 {
     if shadow { ANY } else { SOURCE }
@@ -115,26 +124,24 @@ impl Kind {
         let from = operand(shadow);
         match self {
             // width, d, a, b, imm
-            Kind::Halt => Row::new(NONE, NONE, NONE, NONE, NONE),
-            Kind::Const => Row::new(NONE, WRITTEN, NONE, NONE, NUMBER),
-            Kind::Add => Row::new(NONE, RESULT, from, from, NONE),
-            Kind::Sub => Row::new(NONE, RESULT, from, from, NONE),
-            Kind::And => Row::new(NONE, RESULT, from, from, NONE),
-            Kind::Or => Row::new(NONE, RESULT, from, from, NONE),
-            Kind::Xor => Row::new(NONE, RESULT, from, from, NONE),
-            Kind::Shl => Row::new(NONE, RESULT, from, from, NONE),
-            Kind::Shr => Row::new(NONE, RESULT, from, from, NONE),
-            Kind::Below => Row::new(NONE, RESULT, from, from, NONE),
-            Kind::Load => Row::new(WIDTHS, WRITTEN, SOURCE, NONE, NUMBER),
-            Kind::Store => Row::new(WIDTHS, NONE, SOURCE, SOURCE, NUMBER),
-            Kind::Beq => Row::new(NONE, NONE, SOURCE, SOURCE, NUMBER),
-            Kind::Bne => Row::new(NONE, NONE, SOURCE, SOURCE, NUMBER),
-            Kind::Jump => Row::new(NONE, NONE, NONE, NONE, NUMBER),
-            Kind::Early => Row::new(WIDTHS, SHADOW, ANY, NONE, NUMBER),
-            Kind::Check => Row::new(NONE, WRITTEN, SHADOW, NONE, NUMBER),
-            Kind::Take => Row::new(NONE, WRITTEN, SHADOW, NONE, NONE),
+            Kind::Halt => Row::new(None, None, None, None, None),
+            Kind::Const => Row::new(None, WRITTEN, None, None, NUMBER),
+            Kind::Add
+            | Kind::Sub
+            | Kind::And
+            | Kind::Or
+            | Kind::Xor
+            | Kind::Shl
+            | Kind::Shr
+            | Kind::Below => Row::new(None, RESULT, from, from, None),
+            Kind::Load => Row::new(WIDTHS, WRITTEN, SOURCE, None, NUMBER),
+            Kind::Store => Row::new(WIDTHS, None, SOURCE, SOURCE, NUMBER),
+            Kind::Beq | Kind::Bne => Row::new(None, None, SOURCE, SOURCE, NUMBER),
+            Kind::Jump | Kind::Back => Row::new(None, None, None, None, NUMBER),
+            Kind::Early => Row::new(WIDTHS, SHADOW, ANY, None, NUMBER),
+            Kind::Check => Row::new(None, WRITTEN, SHADOW, None, NUMBER),
+            Kind::Take => Row::new(None, WRITTEN, SHADOW, None, None),
             Kind::Reload => Row::new(WIDTHS, WRITTEN, SOURCE, SHADOW, NUMBER),
-            Kind::Back => Row::new(NONE, NONE, NONE, NONE, NUMBER),
         }
     }
 }

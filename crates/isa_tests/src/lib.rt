@@ -10,295 +10,227 @@ mod tests {
     use std::process::Abort;
     use std::test::Fail;
 
-    // The lowest and the highest number that a field may hold; 0 and 0 where the kind does not use it.
-    type Ends = (u64, u64);
+    // The lowest and the highest number that a field may hold, where the kind uses it.
+    type Ends = Option<(u64, u64)>;
 
-    // A kind with the ends of width, d, a, b and imm, where d is `d`.
     #[derive(Clone, Copy)]
-    struct Legal {
-        kind: u64,
-        d: u64,
-        ends: [Ends; 5],
+    enum Field {
+        Width,
+        D,
+        A,
+        B,
+        Imm,
     }
 
-    const OFF: Ends = (0, 0);
+    // The fields that have ends in the table.
+    const FIELDS: [Field; 5] = [Field::Width, Field::D, Field::A, Field::B, Field::Imm];
 
-    const LEGAL: [Legal; 28] = [
-        Legal {
-            kind: 0,
-            d: 0,
-            ends: [OFF, OFF, OFF, OFF, OFF],
-        },
-        Legal {
-            kind: 1,
-            d: 1,
-            ends: [OFF, (1, 31), OFF, OFF, (0, 65535)],
-        },
-        Legal {
-            kind: 2,
-            d: 1,
-            ends: [OFF, (1, 63), (0, 31), (0, 31), OFF],
-        },
-        Legal {
-            kind: 2,
-            d: 32,
-            ends: [OFF, (1, 63), (0, 63), (0, 63), OFF],
-        },
-        Legal {
-            kind: 3,
-            d: 2,
-            ends: [OFF, (1, 63), (0, 31), (0, 31), OFF],
-        },
-        Legal {
-            kind: 3,
-            d: 63,
-            ends: [OFF, (1, 63), (0, 63), (0, 63), OFF],
-        },
-        Legal {
-            kind: 4,
-            d: 31,
-            ends: [OFF, (1, 63), (0, 31), (0, 31), OFF],
-        },
-        Legal {
-            kind: 4,
-            d: 32,
-            ends: [OFF, (1, 63), (0, 63), (0, 63), OFF],
-        },
-        Legal {
-            kind: 5,
-            d: 31,
-            ends: [OFF, (1, 63), (0, 31), (0, 31), OFF],
-        },
-        Legal {
-            kind: 5,
-            d: 33,
-            ends: [OFF, (1, 63), (0, 63), (0, 63), OFF],
-        },
-        Legal {
-            kind: 6,
-            d: 1,
-            ends: [OFF, (1, 63), (0, 31), (0, 31), OFF],
-        },
-        Legal {
-            kind: 6,
-            d: 63,
-            ends: [OFF, (1, 63), (0, 63), (0, 63), OFF],
-        },
-        Legal {
-            kind: 7,
-            d: 1,
-            ends: [OFF, (1, 63), (0, 31), (0, 31), OFF],
-        },
-        Legal {
-            kind: 7,
-            d: 32,
-            ends: [OFF, (1, 63), (0, 63), (0, 63), OFF],
-        },
-        Legal {
-            kind: 8,
-            d: 31,
-            ends: [OFF, (1, 63), (0, 31), (0, 31), OFF],
-        },
-        Legal {
-            kind: 8,
-            d: 32,
-            ends: [OFF, (1, 63), (0, 63), (0, 63), OFF],
-        },
-        Legal {
-            kind: 9,
-            d: 31,
-            ends: [OFF, (1, 63), (0, 31), (0, 31), OFF],
-        },
-        Legal {
-            kind: 9,
-            d: 63,
-            ends: [OFF, (1, 63), (0, 63), (0, 63), OFF],
-        },
-        Legal {
-            kind: 10,
-            d: 1,
-            ends: [(0, 2), (1, 31), (0, 31), OFF, (0, 65535)],
-        },
-        Legal {
-            kind: 11,
-            d: 0,
-            ends: [(0, 2), OFF, (0, 31), (0, 31), (0, 65535)],
-        },
-        Legal {
-            kind: 12,
-            d: 0,
-            ends: [OFF, OFF, (0, 31), (0, 31), (0, 65535)],
-        },
-        Legal {
-            kind: 13,
-            d: 0,
-            ends: [OFF, OFF, (0, 31), (0, 31), (0, 65535)],
-        },
-        Legal {
-            kind: 14,
-            d: 0,
-            ends: [OFF, OFF, OFF, OFF, (0, 65535)],
-        },
-        Legal {
-            kind: 15,
-            d: 32,
-            ends: [(0, 2), (32, 63), (0, 63), OFF, (0, 65535)],
-        },
-        Legal {
-            kind: 16,
-            d: 1,
-            ends: [OFF, (1, 31), (32, 63), OFF, (0, 65535)],
-        },
-        Legal {
-            kind: 17,
-            d: 1,
-            ends: [OFF, (1, 31), (32, 63), OFF, OFF],
-        },
-        Legal {
-            kind: 18,
-            d: 1,
-            ends: [(0, 2), (1, 31), (0, 31), (32, 63), (0, 65535)],
-        },
-        Legal {
-            kind: 19,
-            d: 0,
-            ends: [OFF, OFF, OFF, OFF, (0, 65535)],
-        },
+    const WIDTHS: Ends = Some((0, 2));
+
+    const WRITTEN: Ends = Some((1, 31));
+
+    const RESULT: Ends = Some((1, 63));
+
+    const SOURCE: Ends = Some((0, 31));
+
+    const SHADOW: Ends = Some((32, 63));
+
+    const ANY: Ends = Some((0, 63));
+
+    const NUMBER: Ends = Some((0, 65535));
+
+    // A kind with a d, and with it the ends of width, d, a, b and imm. Kinds and refusals by their numbers, on which others
+    // rely, and so not by the enums that are tested.
+    const LEGAL: [(u64, u64, [Ends; 5]); 28] = [
+        (0, 0, [None, None, None, None, None]),
+        (1, 1, [None, WRITTEN, None, None, NUMBER]),
+        (2, 1, [None, RESULT, SOURCE, SOURCE, None]),
+        (2, 32, [None, RESULT, ANY, ANY, None]),
+        (3, 2, [None, RESULT, SOURCE, SOURCE, None]),
+        (3, 63, [None, RESULT, ANY, ANY, None]),
+        (4, 31, [None, RESULT, SOURCE, SOURCE, None]),
+        (4, 32, [None, RESULT, ANY, ANY, None]),
+        (5, 31, [None, RESULT, SOURCE, SOURCE, None]),
+        (5, 33, [None, RESULT, ANY, ANY, None]),
+        (6, 1, [None, RESULT, SOURCE, SOURCE, None]),
+        (6, 63, [None, RESULT, ANY, ANY, None]),
+        (7, 1, [None, RESULT, SOURCE, SOURCE, None]),
+        (7, 32, [None, RESULT, ANY, ANY, None]),
+        (8, 31, [None, RESULT, SOURCE, SOURCE, None]),
+        (8, 32, [None, RESULT, ANY, ANY, None]),
+        (9, 31, [None, RESULT, SOURCE, SOURCE, None]),
+        (9, 63, [None, RESULT, ANY, ANY, None]),
+        (10, 1, [WIDTHS, WRITTEN, SOURCE, None, NUMBER]),
+        (11, 0, [WIDTHS, None, SOURCE, SOURCE, NUMBER]),
+        (12, 0, [None, None, SOURCE, SOURCE, NUMBER]),
+        (13, 0, [None, None, SOURCE, SOURCE, NUMBER]),
+        (14, 0, [None, None, None, None, NUMBER]),
+        (15, 32, [WIDTHS, SHADOW, ANY, None, NUMBER]),
+        (16, 1, [None, WRITTEN, SHADOW, None, NUMBER]),
+        (17, 1, [None, WRITTEN, SHADOW, None, None]),
+        (18, 1, [WIDTHS, WRITTEN, SOURCE, SHADOW, NUMBER]),
+        (19, 0, [None, None, None, None, NUMBER]),
     ];
 
-    // Sizes and places of the fields in a word, most significant first; slot 6 is the zero bits.
-    const SIZES: [u64; 8] = [5, 2, 6, 6, 6, 10, 13, 16];
+    // How many numbers each part of a word can hold, most significant first; the seventh is the zero bits.
+    const SIZES: [u64; 8] = [
+        1 << 5,
+        1 << 2,
+        1 << 6,
+        1 << 6,
+        1 << 6,
+        1 << 10,
+        1 << 13,
+        1 << 16,
+    ];
 
-    fn fields(values: [u64; 7]) -> Fields {
-        let [kind, width, d, a, b, home, imm] = values;
-        Fields {
-            kind,
-            width,
-            d,
-            a,
-            b,
-            home,
-            imm,
-        }
-    }
+    // Values that break a rule, and the number of the first rule that they break.
+    const BROKEN: [([u64; 7], u64); 9] = [
+        ([20, 3, 64, 64, 64, 1024, 65536], 11),
+        ([20, 0, 0, 0, 0, 0, 0], 11),
+        ([31, 3, 0, 0, 0, 0, 0], 11),
+        ([u64::MAX, 0, 0, 0, 0, 0, 0], 11),
+        ([10, 3, 0, 32, 1, 1024, 65536], 12),
+        ([1, 1, 0, 1, 1, 0, 0], 12),
+        ([10, 0, 0, 0, 1, 0, 0], 13),
+        ([2, 0, 1, 0, 32, 0, 1], 13),
+        ([10, 0, 1, 0, 1, 0, 0], 14),
+    ];
 
-    fn number(answer: &Result<Instruction, WordRefusal>) -> u64 {
-        match answer {
-            Ok(_) => 0,
-            Err(refusal) => refusal.number(),
-        }
-    }
+    // Words that take a set zero bit, and the number by which they are refused with one.
+    const WORDS: [(u64, u64); 4] = [
+        (0x0808_0000_0000_0005, 14),
+        (0x0800_0000_0000_0005, 13),
+        (0x0a08_0000_0000_0005, 12),
+        (0xa800_0000_0000_0000, 11),
+    ];
 
-    // The word of any values that fit their bits, joined by multiplying up; nothing where one does not fit.
-    fn word(values: [u64; 7]) -> Option<u64> {
-        let [kind, width, d, a, b, home, imm] = values;
-        let slots = [kind, width, d, a, b, home, 0, imm];
-        let mut word: u64 = 0;
-        for i in 0..8 {
-            let size = 1u64.wrapping_shl((SIZES[i] % 64) as u32);
-            if slots[i] >= size {
-                return None;
+    impl Field {
+        // The fields with x in this one.
+        fn set(self, fields: Fields, x: u64) -> Fields {
+            match self {
+                Field::Width => Fields { width: x, ..fields },
+                Field::D => Fields { d: x, ..fields },
+                Field::A => Fields { a: x, ..fields },
+                Field::B => Fields { b: x, ..fields },
+                Field::Imm => Fields { imm: x, ..fields },
             }
-            word = word.wrapping_mul(size).wrapping_add(slots[i]);
         }
-        Some(word)
+
+        // The number by which another number in the field is refused.
+        fn refusal(self, ends: Ends) -> u64 {
+            match (self, ends) {
+                (Field::Width, _) => 12,
+                (Field::D | Field::A | Field::B, Some(_)) => 13,
+                _ => 14,
+            }
+        }
     }
 
-    // Composing and unpacking answer this number, or give these values and their word back where it is 0.
-    fn answers(rt: &impl Abort, values: [u64; 7], expected: u64) -> Result<(), Fail> {
-        let f = fields(values);
-        let composed = compose(&f);
-        assert_eq!(rt; number(&composed), expected);
-        if let Ok(i) = composed {
-            assert_eq!(rt; i.fields(), f);
-        }
-        let Some(w) = word(values) else {
-            assert_ne!(rt; expected, 0);
+    // The fields of an accepted instruction, or the refusal's number.
+    fn told(answer: Result<Instruction, WordRefusal>) -> Result<Fields, u64> {
+        answer.map(Fields::from).map_err(WordRefusal::number)
+    }
+
+    // The word of any fields that fit their bits, joined by multiplying up; nothing where one does not fit.
+    fn word(f: &Fields) -> Option<u64> {
+        [f.kind, f.width, f.d, f.a, f.b, f.home, 0, f.imm]
+            .iter()
+            .zip(SIZES.iter())
+            .try_fold(0u64, |word, (part, size)| {
+                (part < size).then_some(word.wrapping_mul(*size).wrapping_add(*part))
+            })
+    }
+
+    // Composing and unpacking refuse the fields by this number, or give them and their word back.
+    fn answers(rt: &impl Abort, f: Fields, expected: Result<(), u64>) -> Result<(), Fail> {
+        let told_of = expected.map(|()| f);
+        assert_eq!(rt; told(compose(&f)), told_of);
+        let Some(w) = word(&f) else {
+            assert!(rt; expected.is_err());
             return Ok(());
         };
         let unpacked = unpack(w);
-        assert_eq!(rt; number(&unpacked), expected);
+        assert_eq!(rt; told(unpacked), told_of);
         if let Ok(i) = unpacked {
-            assert_eq!(rt; i.fields(), f);
             assert_eq!(rt; pack(&i), w);
         }
         Ok(())
     }
 
-    // The refusal of a number that is outside the ends of field `at` of width, d, a, b and imm.
-    fn refusal(at: usize, ends: Ends) -> u64 {
-        match at {
-            0 => 12,
-            4 => 14,
-            _ => { if ends.1 == 0 { 14 } else { 13 } }
+    // The field at both ends, one past them, and at the largest number.
+    fn edges(rt: &impl Abort, base: Fields, field: Field, ends: Ends) -> Result<(), Fail> {
+        let (low, high) = ends.unwrap_or((0, 0));
+        let refused = Err(field.refusal(ends));
+        answers(rt, field.set(base, low), Ok(()))?;
+        answers(rt, field.set(base, high), Ok(()))?;
+        answers(rt, field.set(base, high.wrapping_add(1)), refused)?;
+        if let Some(below) = low.checked_sub(1) {
+            answers(rt, field.set(base, below), refused)?;
         }
+        answers(rt, field.set(base, u64::MAX), refused)
     }
 
-    // The field's place among the seven values.
-    fn place(at: usize) -> usize {
-        match at {
-            0 => 1,
-            1 => 2,
-            2 => 3,
-            3 => 4,
-            _ => 6,
+    // The kind with this d at the ends of every field, alone and together.
+    fn kind_at_its_ends(rt: &impl Abort, kind: u64, d: u64, ends: [Ends; 5]) -> Result<(), Fail> {
+        let [width, _, a, b, imm] = ends.map(|e| e.map_or(0, |(low, _)| low));
+        let base = Fields {
+            kind,
+            width,
+            d,
+            a,
+            b,
+            home: 0,
+            imm,
+        };
+        for (field, ends) in FIELDS.iter().zip(ends.iter()) {
+            edges(rt, base, *field, *ends)?;
         }
-    }
-
-    fn with(mut values: [u64; 7], at: usize, x: u64) -> [u64; 7] {
-        values[at % 7] = x;
-        values
-    }
-
-    fn edges(rt: &impl Abort, row: Legal, at: usize, base: [u64; 7]) -> Result<(), Fail> {
-        let ends = row.ends[at % 5];
-        let wrong = refusal(at, ends);
-        answers(rt, with(base, place(at), ends.0), 0)?;
-        answers(rt, with(base, place(at), ends.1), 0)?;
-        answers(rt, with(base, place(at), ends.1.wrapping_add(1)), wrong)?;
-        if ends.0 > 0 {
-            answers(rt, with(base, place(at), ends.0 - 1), wrong)?;
-        }
-        answers(rt, with(base, place(at), u64::MAX), wrong)
+        answers(rt, Fields { home: 1023, ..base }, Ok(()))?;
+        answers(rt, Fields { home: 1024, ..base }, Err(14))?;
+        let [width, _, a, b, imm] = ends.map(|e| e.map_or(0, |(_, high)| high));
+        let top = Fields {
+            width,
+            a,
+            b,
+            home: 1023,
+            imm,
+            ..base
+        };
+        answers(rt, top, Ok(()))
     }
 
     #[test]
     fn every_kind_at_its_ends(rt: HostRuntime) -> Result<(), Fail> {
-        for row in LEGAL {
-            let e = row.ends;
-            let base = [row.kind, e[0].0, row.d, e[2].0, e[3].0, 0, e[4].0];
-            for at in 0..5 {
-                edges(&rt, row, at, base)?;
-            }
-            answers(&rt, with(base, 5, 1023), 0)?;
-            answers(&rt, with(base, 5, 1024), 14)?;
-            let top = [row.kind, e[0].1, row.d, e[2].1, e[3].1, 1023, e[4].1];
-            answers(&rt, top, 0)?;
+        for (kind, d, ends) in LEGAL {
+            kind_at_its_ends(&rt, kind, d, ends)?;
         }
         Ok(())
     }
 
     #[test]
     fn the_first_broken_rule(rt: HostRuntime) -> Result<(), Fail> {
-        answers(&rt, [20, 3, 64, 64, 64, 1024, 65536], 11)?;
-        answers(&rt, [20, 0, 0, 0, 0, 0, 0], 11)?;
-        answers(&rt, [31, 3, 0, 0, 0, 0, 0], 11)?;
-        answers(&rt, [u64::MAX, 0, 0, 0, 0, 0, 0], 11)?;
-        answers(&rt, [10, 3, 0, 32, 1, 1024, 65536], 12)?;
-        answers(&rt, [1, 1, 0, 1, 1, 0, 0], 12)?;
-        answers(&rt, [10, 0, 0, 0, 1, 0, 0], 13)?;
-        answers(&rt, [2, 0, 1, 0, 32, 0, 1], 13)?;
-        answers(&rt, [10, 0, 1, 0, 1, 0, 0], 14)
+        for ([kind, width, d, a, b, home, imm], number) in BROKEN {
+            let fields = Fields {
+                kind,
+                width,
+                d,
+                a,
+                b,
+                home,
+                imm,
+            };
+            answers(&rt, fields, Err(number))?;
+        }
+        Ok(())
     }
 
     #[test]
     fn every_zero_bit(rt: HostRuntime) {
         for bit in 16..29u32 {
-            let stray = 1u64.wrapping_shl(bit);
-            assert_eq!(rt; number(&unpack(0x0808_0000_0000_0005 | stray)), 14);
-            assert_eq!(rt; number(&unpack(0x0800_0000_0000_0005 | stray)), 13);
-            assert_eq!(rt; number(&unpack(0x0a08_0000_0000_0005 | stray)), 12);
-            assert_eq!(rt; number(&unpack(0xa800_0000_0000_0000 | stray)), 11);
+            for (word, number) in WORDS {
+                assert_eq!(rt; told(unpack(word | 1 << bit)), Err(number));
+            }
         }
     }
 }

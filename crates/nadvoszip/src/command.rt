@@ -1,8 +1,11 @@
 // Which command the arguments choose.
+ghost use Rattle.std.specs.Prelude.{◌≡◌};
+ghost use Rattle.nadvoszip.specs.Commands.{page_of, NamesCommand};
+
 use crate::failure::Failure;
 use crate::help;
-use std::alloc::Global;
 use std::env::Args;
+use std::str::FromStr;
 
 #[derive(Clone, Copy)]
 pub enum Command {
@@ -12,18 +15,30 @@ pub enum Command {
     Help(&'static str),
 }
 
-impl Command {
-    fn named(name: &str) -> Option<Command> {
+// No command has the name.
+#[derive(Clone, Copy)]
+pub struct UnknownName;
+
+impl FromStr for Command {
+    type Err = UnknownName;
+
+    ghost from_str_gives = { NamesCommand };
+
+    fn from_str(name: &str) -> Result<Command, UnknownName> {
         match name {
-            "pack" => Some(Command::Pack),
-            "list" => Some(Command::List),
-            "--help" => Some(Command::Help(help::GENERAL)),
-            _ => None,
+            "pack" => Ok(Command::Pack),
+            "list" => Ok(Command::List),
+            "--help" => Ok(Command::Help(help::GENERAL)),
+            _ => Err(UnknownName),
         }
     }
+}
 
+impl Command {
     // The page that explains the command.
-    fn page(self) -> &'static str {
+    fn page(self) -> &'static str
+        ensures { result.now ≡ page_of self }
+    {
         match self {
             Command::Pack => help::PACK,
             Command::List => help::LIST,
@@ -33,22 +48,19 @@ impl Command {
 }
 
 // The command of the arguments, of which the first is the program's own name.
-pub fn chosen(heap: Global, mut arguments: Args) -> Result<Command, Failure> {
-    let _program = arguments.next();
+pub fn chosen(arguments: Args) -> Result<Command, Failure> {
+    let mut arguments = arguments.skip(1);
     let Some(first) = arguments.next() else {
         return Ok(Command::Demonstrate);
     };
-    let Some(command) = Command::named(first.as_str()) else {
-        let message = format!(in heap; "unknown command {first:?}; see nadvoszip --help")?;
-        return Err(Failure::Usage(message));
+    let Ok(command) = first.as_str().parse::<Command>() else {
+        return Err(Failure::UnknownCommand(first));
     };
-    let second = match arguments.next() {
-        Some(word) => word,
-        None => return Ok(command),
+    let Some(second) = arguments.next() else {
+        return Ok(command);
     };
     if second.as_str() == "--help" && arguments.next().is_none() {
         return Ok(Command::Help(command.page()));
     }
-    let message = format!(in heap; "unexpected argument {second:?}; see nadvoszip --help")?;
-    Err(Failure::Usage(message))
+    Err(Failure::UnexpectedArgument(second))
 }

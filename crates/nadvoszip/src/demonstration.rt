@@ -1,12 +1,11 @@
 // The built-in program: an order controller, shown as text, packed, unpacked again and listed.
-ghost use Rattle.std.specs.Prelude.{◌≡◌, is_ok};
+ghost use Rattle.std.specs.Prelude.{◌≡◌, count_by, is_ok};
 ghost use Rattle.isa.specs.Words.{unpacked};
 
 use crate::failure::Failure;
 use crate::output::{listing, words};
 use isa::codec::{pack, unpack};
 use std::alloc::Global;
-use std::fmt::Write;
 
 const ORDERS: &str = "\
 # An order controller looks at three order records and has each order cut once.
@@ -30,35 +29,22 @@ seen:   add r1 r1 r4        # the next record
 fn comes_back(word: u64) -> bool
     ensures { result ≡ is_ok (unpacked word) }
 {
-    match unpack(word) {
-        Ok(instruction) => pack(&instruction) == word,
-        Err(_) => false,
-    }
+    unpack(word).is_ok_and(|instruction| pack(&instruction) == word)
 }
 
-fn count_back(words: &[u64]) -> usize {
-    let mut count = 0;
-    for word in words {
-        if comes_back(*word) {
-            count += 1;
-        }
-    }
-    count
+fn count_back(words: &[u64]) -> usize
+    ensures { result ≡ count_by (λ w. is_ok (unpacked w)) words.now }
+{
+    words.iter().filter(|word| comes_back(**word)).count()
 }
 
-pub fn report(heap: Global) -> Result<String, Failure> {
-    let words = words(heap, ORDERS)?;
-    let listing = listing(heap, words.as_slice())?;
+pub fn report(alloc: Global) -> Result<String, Failure> {
+    let words = words(alloc, ORDERS)?;
+    let listing = listing(alloc, words.as_slice())?;
     let count = words.len();
     let same = count_back(words.as_slice());
-    let mut lines = String::new(heap);
-    write!(
-        lines,
-        "The program as text:\n\n{ORDERS}\nPacked, unpacked and listed:\n\n{listing}\n"
-    )?;
-    writeln!(
-        lines,
-        "{count} instructions packed; {same} of their words unpack to an instruction that packs to the same word."
-    )?;
-    Ok(lines)
+    Ok(format!(in alloc;
+        "The program as text:\n\n{ORDERS}\nPacked, unpacked and listed:\n\n{listing}\n\
+        {count} instructions packed; {same} of their words unpack to an instruction that packs to the same word.\n"
+    )?)
 }

@@ -1,55 +1,23 @@
-// Why a run ends with status 1.
-use std::alloc::{AllocError, Global};
-use std::{fmt, io};
-use text::problem::TextError;
+// Why a run ends with status 1: an enum, since an anyhow::Error would cut a long message.
+use std::alloc::AllocError;
+use std::io;
+use thiserror::Error;
 
-#[derive(Drop)]
+#[derive(Debug, Drop, Error)]
 pub enum Failure {
-    Usage(String),
+    #[error("unknown command {0:?}; see nadvoszip --help")]
+    UnknownCommand(String),
+    #[error("unexpected argument {0:?}; see nadvoszip --help")]
+    UnexpectedArgument(String),
+    // what is wrong with a line of the input, in words
+    #[error("{0}")]
     Input(String),
+    #[error("line {line}: the input is not UTF-8 text")]
     NotText { line: usize },
+    #[error("the input is longer than 16 MiB")]
     TooLong,
-    Memory,
-    Io(io::Error),
-}
-
-impl Failure {
-    // The failure that says what is wrong with a line of the input.
-    pub fn of(heap: Global, error: &TextError<'_>) -> Failure {
-        match format!(in heap; "{error}") {
-            Ok(message) => Failure::Input(message),
-            Err(_) => Failure::Memory,
-        }
-    }
-}
-
-impl fmt::Display for Failure {
-    fn fmt<W: fmt::Write>(&self, f: &mut fmt::Formatter<W>) -> fmt::Result {
-        match self {
-            Failure::Usage(message) => write!(f, "{message}"),
-            Failure::Input(message) => write!(f, "{message}"),
-            Failure::NotText { line } => write!(f, "line {line}: the input is not UTF-8 text"),
-            Failure::TooLong => write!(f, "the input is longer than 16 MiB"),
-            Failure::Memory => write!(f, "out of memory"),
-            Failure::Io(error) => write!(f, "{error}"),
-        }
-    }
-}
-
-impl From<AllocError> for Failure {
-    fn from(_e: AllocError) -> Failure {
-        Failure::Memory
-    }
-}
-
-impl From<fmt::Error> for Failure {
-    fn from(_e: fmt::Error) -> Failure {
-        Failure::Memory
-    }
-}
-
-impl From<io::Error> for Failure {
-    fn from(e: io::Error) -> Failure {
-        Failure::Io(e)
-    }
+    #[error("out of memory")]
+    Memory(#[from(alloc)] AllocError),
+    #[error(transparent)]
+    Io(#[from] io::Error),
 }

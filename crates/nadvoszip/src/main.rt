@@ -10,34 +10,24 @@ mod output;
 
 use command::Command;
 use failure::Failure;
+use std::alloc::Global;
 use std::env;
 use std::process::ExitCode;
+use std::rt::Env;
 
 // The words of the program on standard input.
-fn program(rt: &HostRuntime) -> Result<Vec<u64>, Failure> {
-    let bytes = input::read(rt)?;
-    output::words(rt.alloc(), input::as_text(bytes.as_slice())?)
+fn program(alloc: Global, rt: &impl Input) -> Result<Vec<u64>, Failure> {
+    let bytes = input::read(alloc, rt.reader())?;
+    output::words(alloc, input::as_text(bytes.as_slice())?)
 }
 
-fn run(rt: &HostRuntime) -> Result<(), Failure> {
-    let heap = rt.alloc();
-    let arguments = env::args(rt)?;
-    match command::chosen(heap, arguments)? {
-        Command::Help(page) => print!(rt; "{page}")?,
-        Command::Pack => {
-            let words = program(rt)?;
-            let lines = output::packed(heap, words.as_slice())?;
-            print!(rt; "{lines}")?;
-        }
-        Command::List => {
-            let words = program(rt)?;
-            let lines = output::listing(heap, words.as_slice())?;
-            print!(rt; "{lines}")?;
-        }
-        Command::Demonstrate => {
-            let report = demonstration::report(heap)?;
-            print!(rt; "{report}")?;
-        }
+fn run(rt: &(impl Alloc<A = Global> + Env + Input + Print)) -> Result<(), Failure> {
+    let alloc = rt.alloc();
+    match command::chosen(env::args(rt)?)? {
+        Command::Help(page) => rt.print(page)?,
+        Command::Pack => rt.print(output::packed(alloc, program(alloc, rt)?.as_slice())?)?,
+        Command::List => rt.print(output::listing(alloc, program(alloc, rt)?.as_slice())?)?,
+        Command::Demonstrate => rt.print(demonstration::report(alloc)?)?,
     }
     Ok(())
 }
@@ -46,6 +36,7 @@ fn main(rt: HostRuntime) -> ExitCode {
     match run(&rt) {
         Ok(()) => ExitCode::SUCCESS,
         Err(failure) => {
+            // where even this is not told, the status says it
             let _ = eprintln!(rt; "nadvoszip: {failure}");
             ExitCode::FAILURE
         }

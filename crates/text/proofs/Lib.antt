@@ -1,7 +1,6 @@
 mod Digits
 mod Edges
-mod Spellings
 mod Readings
 mod Lasts
-mod Becoming
-mod Listings
+mod Fronts
+mod Naming

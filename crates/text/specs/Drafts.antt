@@ -1,25 +1,48 @@
--- The words that the drafts of a program become.
-use Rattle.std.specs.Prelude.{◌≡◌, ℕ, List, [], ◌∷◌, ◌++◌, Some}
+-- The drafts of a program, and the words that they become.
+use Rattle.std.specs.Prelude.{◌≡◌, ℕ, ◌+◌, ◌≤◌, List, [], ◌∷◌, ◌++◌, map, length, min, Some, Option, vec_len}
+use Rattle.std.specs.Option.{option_and_then}
 use Rattle.text.specs.declared.drafts.Drafted.{Drafted}
+use Rattle.text.specs.declared.drafts.Drafts.{Drafts}
+use Rattle.text.specs.declared.labels.Labels.{Labels}
 use Rattle.text.specs.declared.statement.Draft.{Draft}
 use Rattle.text.specs.declared.statement.Draft.TheVariants.{Word, Branch}
-use Rattle.text.specs.Forms.{fields_with, word_for}
-use Rattle.text.specs.Lines.{Given}
+use Rattle.text.specs.Forms.{word_for}
+use Rattle.text.specs.Lines.{draft_at}
+use Rattle.text.specs.Marks.{at_label}
+use Rattle.text.specs.Statements.{view}
 
--- a word becomes itself, and an instruction that goes to a label its word with some place as the target
-unfoldable pub Becomes : Draft → ℕ → Type 0
-Becomes (Word w) n = n ≡ w
-Becomes (Branch f l) n = (p : ℕ) × (Some n ≡ word_for (fields_with f.kind f.width f.d f.a f.b f.home p))
+-- the word of a draft: itself, or that of the instruction with the place of its label as the target
+unfoldable pub draft_word : Labels → Draft → Option ℕ
+draft_word labels (Word w) = Some w
+draft_word labels (Branch f l) =
+    option_and_then (λ mark. word_for (record f { imm = mark.place })) (at_label labels l.now)
 
 -- each draft becomes the word at its place
-abbrev pub AllBecome : List Drafted → List ℕ → Type 0
-AllBecome [] [] = Unit {0}
-AllBecome [] (n ∷ ns) = ⊥
-AllBecome (x ∷ xs) [] = ⊥
-AllBecome (x ∷ xs) (n ∷ ns) = Becomes x.draft n × AllBecome xs ns
+abbrev pub AllBecome : Labels → List Drafted → List ℕ → Type 0
+AllBecome labels drafts words =
+    map (λ w. Some w) words ≡ map (λ d. draft_word labels d.draft) drafts
 
--- a line's words add what they give at the next place, with the line's number; no words add nothing
-abbrev pub Added : ℕ → ℕ → List (List ℕ) → List Drafted → List Drafted → Type 0
-Added place number [] xs ys = ys ≡ xs
-Added place number (first ∷ rest) xs ys =
-    (d : Draft) × Given place first rest d × (ys ≡ xs ++ record { draft = d; line = number } ∷ [])
+-- a line's words give what they say at the next place, with the line's number; none give nothing
+abbrev pub Gives : ℕ → ℕ → List (List ℕ) → List Drafted → List Drafted → Type 0
+Gives place line [] xs ys = ys ≡ xs
+Gives place line (first ∷ rest) xs ys =
+    (d : Draft) × (Some (view d) ≡ draft_at place first rest)
+    × (ys ≡ xs ++ record { draft = d; line = line } ∷ [])
+
+-- what the words of a line add to a program
+pub record Added (line : ℕ) (words : List (List ℕ)) (old new : Drafts) : Type 0 where
+  pub most : new.most ≡ old.most
+  pub len : vec_len new.items ≡ vec_len old.items + min 1 (length words)
+  pub items : Gives (vec_len old.items) line words old.items.items new.items.items
+
+-- a line adds at most one instruction
+pub record Grown (old new : Drafts) : Type 0 where
+  pub most : new.most ≡ old.most
+  pub at_least : vec_len old.items ≤ vec_len new.items
+  pub at_most : vec_len new.items ≤ vec_len old.items + 1
+
+-- the same program
+pub record IsUnchanged (old new : Drafts) : Type 0 where
+  pub most : new.most ≡ old.most
+  pub len : vec_len new.items ≡ vec_len old.items
+  pub items : new.items.items ≡ old.items.items

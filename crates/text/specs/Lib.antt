@@ -1,3 +1,4 @@
+pub mod Texts
 pub mod Numerals
 pub mod Operands
 pub mod Forms

@@ -1,51 +1,107 @@
 // What the lines of a program gave, and the words that they become once every label has its place.
-ghost use Rattle.std.specs.Prelude.{◌≡◌, ℕ, ◌+◌, [], ◌∷◌, ◌++◌, IfOk, vec_len, OnOk};
-ghost use Rattle.text.specs.Drafts.{Becomes};
+ghost use Rattle.std.specs.Prelude.{◌≡◌, ℕ, ◌+◌, ◌≤◌, [], ◌∷◌, ◌++◌, IfOk, Some, vec_len, OnOk, OnErr};
+ghost use Rattle.std.specs.Result.{result_ok};
+ghost use Rattle.text.specs.Texts.{texts};
 
-use crate::problem::Problem;
+use crate::labels::Labels;
+use crate::line::draft;
+use crate::problem::{Problem, TextError};
 use crate::statement::{Draft, word_of};
 use isa::fields::Fields;
-use std::collections::BTreeMap;
+use std::alloc::Global;
 
 // What a line gave, with the line's number for messages.
-#[derive(Clone, Copy)]
+#[derive(Clone, Copy, PartialEq, Eq, Debug)]
 pub struct Drafted<'a> {
     pub draft: Draft<'a>,
     pub line: usize,
 }
 
-// Where a label stands.
-#[derive(Clone, Copy)]
-pub struct Mark {
-    pub place: usize,
-    pub line: usize,
-}
+impl<'a> Drafted<'a> {
+    ghost use Rattle.text.specs.Drafts.{draft_word};
 
-pub type Labels<'a> = BTreeMap<&'a str, Mark>;
-
-// The word of a draft.
-fn resolved<'a>(labels: &Labels<'a>, draft: Draft<'a>) -> Result<u64, Problem<'a>>
-    ensures { IfOk result (λ n. Becomes draft.entry n) }
-{
-    match draft {
-        Draft::Word(word) => Ok(word),
-        Draft::Branch { fields, label } => {
-            let Some(mark) = labels.get(label) else {
-                return Err(Problem::Undefined(label));
-            };
-            let imm = mark.place as u64;
-            word_of(Fields { imm, ..fields })
+    // The word of the draft.
+    #[tactic(auto, unfolding(crate::specs::Drafts::draft_word))]
+    fn word(&self, labels: &Labels<'a>) -> Result<u64, Problem<'a>>
+        ensures { result_ok result ≡ draft_word labels.now self.now.draft }
+    {
+        match self.draft {
+            Draft::Word(word) => Ok(word),
+            Draft::Branch { fields, label } => {
+                let place = labels.place_of(label).ok_or(Problem::Undefined(label))?;
+                let imm = place as u64;
+                word_of(Fields { imm, ..fields })
+            }
         }
+    }
+
+    // Puts the word of the draft behind the others.
+    fn put(&self, labels: &Labels<'a>, words: &mut Vec<u64>) -> Result<(), Problem<'a>>
+        ensures len { OnOk result (vec_len words.new ≡ vec_len words.old + 1) }
+        ensures items { OnOk result ((n : ℕ) × (Some n ≡ draft_word labels.now self.now.draft)
+            × (words.new.items ≡ words.old.items ++ n ∷ [])) }
+    {
+        words.push(self.word(labels)?)?;
+        Ok(())
     }
 }
 
-impl<'a> Drafted<'a> {
-    // Puts the word of the draft behind the others.
-    pub fn put(&self, labels: &Labels<'a>, words: &mut Vec<u64>) -> Result<(), Problem<'a>>
-        ensures len { OnOk result (vec_len words.new ≡ vec_len words.old + 1) }
-        ensures items { OnOk result ((n : ℕ) × Becomes self.now.draft n × (words.new.items ≡ words.old.items ++ n ∷ [])) }
+// The drafts of a program of at most `most` instructions.
+#[derive(Drop)]
+pub struct Drafts<'a> {
+    most: usize,
+    items: Vec<Drafted<'a>>,
+    ghost short: { vec_len items ≤ most },
+}
+
+impl<'a> Drafts<'a> {
+    ghost use Rattle.text.specs.Drafts.{Added, AllBecome, IsUnchanged};
+
+    pub fn new(alloc: Global, most: usize) -> Drafts<'a>
+        ensures most { result.most ≡ most }
+        ensures empty { vec_len result.items ≡ 0 }
     {
-        words.push(resolved(labels, self.draft)?)?;
+        Drafts {
+            most,
+            items: Vec::new(alloc),
+        }
+    }
+
+    pub fn len(&self) -> usize
+        ensures { result ≡ vec_len self.now.items }
+    {
+        self.items.len()
+    }
+
+    // Adds the instruction of a line, if the line's words after its labels are any.
+    pub fn add(&mut self, line: usize, words: &[&'a str]) -> Result<(), Problem<'a>>
+        ensures ok { OnOk result (Added line (texts words.now) self.old self.new) }
+        ensures err { OnErr result (IsUnchanged self.old self.new) }
+    {
+        let Some((first, rest)) = words.split_first() else {
+            return Ok(());
+        };
+        let place = self.items.len();
+        if place >= self.most {
+            return Err(Problem::TooManyInstructions(self.most));
+        }
+        let draft = draft(place, first, rest)?;
+        self.items.push(Drafted { draft, line })?;
         Ok(())
+    }
+
+    // The words of the program, with each label's place in the instructions that go to it.
+    pub fn words(&self, alloc: Global, labels: &Labels<'a>) -> Result<Vec<u64>, TextError<'a>>
+        ensures len { IfOk result (λ v. vec_len v ≡ vec_len self.now.items) }
+        ensures words { IfOk result (λ v. AllBecome labels.now self.now.items.items v.items) }
+    {
+        let mut words = Vec::new(alloc);
+        for drafted in &self.items {
+            let line = drafted.line;
+            drafted
+                .put(labels, &mut words)
+                .map_err(|problem| TextError { line, problem })?;
+        }
+        Ok(words)
     }
 }

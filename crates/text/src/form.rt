@@ -3,12 +3,13 @@ ghost use Rattle.std.specs.Prelude.{◌≡◌};
 ghost use Rattle.std.specs.Result.{result_ok};
 ghost use Rattle.text.specs.Forms.{form_of, filled};
 
-use crate::operand::{MOST_IMM, address_in, number_up_to, register_in, target_in, width_in};
+use crate::operand::{address_in, number_up_to, register_in, target_in, width_in};
 use crate::problem::Problem;
-use isa::fields::Fields;
+use isa::fields::{Fields, MOST_IMM};
 use isa::kind::Kind;
 
-// What a word of an instruction gives.
+// What a word of an instruction gives. Not a function that reads it: none may be handed out by a
+// pointer, which would have no contract of its own.
 #[derive(Clone, Copy)]
 pub enum Slot {
     D,
@@ -24,44 +25,23 @@ pub enum Slot {
 
 impl Slot {
     // The fields with what the word gives.
-    pub fn fill<'a>(self, fields: Fields, word: &'a str) -> Result<Fields, Problem<'a>>
+    pub fn fill<'a>(self, mut fields: Fields, word: &'a str) -> Result<Fields, Problem<'a>>
         ensures { result_ok result ≡ filled self fields word.now }
     {
-        let filled = match self {
-            Slot::D => Fields {
-                d: register_in(word)?,
-                ..fields
-            },
-            Slot::A => Fields {
-                a: register_in(word)?,
-                ..fields
-            },
-            Slot::B => Fields {
-                b: register_in(word)?,
-                ..fields
-            },
-            Slot::Width => Fields {
-                width: width_in(word)?,
-                ..fields
-            },
+        match self {
+            Slot::D => fields.d = register_in(word)?,
+            Slot::A => fields.a = register_in(word)?,
+            Slot::B => fields.b = register_in(word)?,
+            Slot::Width => fields.width = width_in(word)?.number(),
             Slot::Address => {
                 let address = address_in(word)?;
-                Fields {
-                    a: address.base,
-                    imm: address.offset,
-                    ..fields
-                }
+                fields.a = address.base;
+                fields.imm = address.offset;
             }
-            Slot::Number => Fields {
-                imm: number_up_to(word, MOST_IMM)?,
-                ..fields
-            },
-            Slot::Target => Fields {
-                imm: target_in(word)?,
-                ..fields
-            },
-        };
-        Ok(filled)
+            Slot::Number => fields.imm = number_up_to(word, MOST_IMM)?,
+            Slot::Target => fields.imm = target_in(word)?,
+        }
+        Ok(fields)
     }
 }
 

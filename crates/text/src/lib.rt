@@ -4,6 +4,7 @@
 pub mod assembler;
 mod drafts;
 mod form;
+mod labels;
 mod line;
 pub mod listing;
 mod name;

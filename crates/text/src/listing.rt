@@ -3,7 +3,7 @@ use isa::codec::unpack;
 use std::fmt;
 
 // A word at its place, with the instruction that it is, or why it is none.
-#[derive(Clone, Copy)]
+#[derive(Clone, Copy, PartialEq, Eq, Debug)]
 pub struct Listed {
     pub place: usize,
     pub word: u64,
@@ -11,11 +11,12 @@ pub struct Listed {
 
 impl fmt::Display for Listed {
     fn fmt<W: fmt::Write>(&self, f: &mut fmt::Formatter<W>) -> fmt::Result {
-        let place = self.place;
-        let word = self.word;
+        let Listed { place, word } = *self;
+        write!(f, "{place}  0x{word:016x}  ")?;
+        // two arms, since what they show is of two types
         match unpack(word) {
-            Ok(instruction) => write!(f, "{place}  0x{word:016x}  {instruction}"),
-            Err(refusal) => write!(f, "{place}  0x{word:016x}  {refusal}"),
+            Ok(instruction) => write!(f, "{instruction}"),
+            Err(refusal) => write!(f, "{refusal}"),
         }
     }
 }

@@ -1,8 +1,9 @@
 // Numbers as text writes them: decimal digits, or 0x and hex digits, of any length.
-ghost use Rattle.std.specs.Prelude.{◌≡◌, ◌+◌, ◌*◌, ◌<◌, ◌≤◌};
-ghost use Rattle.std.specs.Option.{option_map};
-ghost use Rattle.std.specs.Char.{digit_value};
-ghost use Rattle.text.specs.Numerals.{after_byte, capped, hex_digits, kept, number_in, numeral_in};
+ghost use Rattle.std.specs.Prelude.{◌≡◌, ◌≤◌};
+ghost use Rattle.std.specs.Option.{option_copied};
+ghost use Rattle.text.specs.Numerals.{capped, hex_digits, is_numeral, number_in, numeral_in, told};
+
+use crate::problem::Problem;
 
 // Why a text gives no number.
 #[derive(Clone, Copy)]
@@ -11,61 +12,49 @@ pub(crate) enum Misread {
     TooLarge,
 }
 
-// What a digit counts for in bases up to 36, and 36 for every other byte.
-fn digit_value(byte: u8) -> u64
-    ensures { result ≡ digit_value byte }
-{
-    match byte {
-        b'0'..=b'9' => u64::from(byte - b'0'),
-        b'A'..=b'Z' => u64::from(byte - b'A') + 10,
-        b'a'..=b'z' => u64::from(byte - b'a') + 10,
-        _ => 36,
+impl Misread {
+    // The problem of a word that was so misread: `none` where it is no number, and else `large`.
+    pub(crate) fn told<'a>(self, none: Problem<'a>, large: Problem<'a>) -> Problem<'a>
+        ensures { result ≡ told self none.entry large.entry }
+    {
+        match self {
+            Misread::NoNumber => none,
+            Misread::TooLarge => large,
+        }
     }
 }
 
-// One digit more, unless the number then needs more than 64 bits.
-fn with_digit(value: Option<u64>, radix: u64, digit: u64) -> Option<u64>
-    ensures { result ≡ kept value radix digit }
+// Whether a text is one or more digits of the base.
+fn is_numeral(text: &str, radix: u32) -> bool
+    requires lower_bound { 2 ≤ radix }
+    requires upper_bound { radix ≤ 36 }
+    ensures { result ≡ is_numeral radix text.now }
 {
-    value?.checked_mul(radix)?.checked_add(digit)
+    !text.is_empty() && text.bytes().all(|byte| char::from(byte).is_digit(radix))
 }
 
 // The number that digits write.
-pub(crate) fn numeral(digits: &[u8], radix: u64) -> Result<u64, Misread>
-    requires { (10 ≤ radix) × (radix ≤ 16) }
+pub(crate) fn numeral(digits: &str, radix: u32) -> Result<u64, Misread>
+    requires lower_bound { 2 ≤ radix }
+    requires upper_bound { radix ≤ 36 }
     ensures { result ≡ capped (numeral_in radix digits.now) }
 {
-    let mut value = Some(0);
-    for byte in digits {
-        let digit = digit_value(*byte);
-        if digit >= radix {
-            return Err(Misread::NoNumber);
-        }
-        value = with_digit(value, radix, digit);
-    }
-    if digits.is_empty() {
+    // `from_str_radix` alone would take a plus in front.
+    if !is_numeral(digits, radix) {
         return Err(Misread::NoNumber);
     }
-    value.ok_or(Misread::TooLarge)
-}
-
-// The bytes after a first one, where that is `front`.
-pub(crate) fn after(bytes: &[u8], front: u8) -> Option<&[u8]>
-    ensures { option_map (λ x. x.now) result ≡ after_byte front bytes.now }
-{
-    let (first, rest) = bytes.split_first()?;
-    if *first == front { Some(rest) } else { None }
+    u64::from_str_radix(digits, radix).map_err(|_| Misread::TooLarge)
 }
 
 // The digits of a word that begins 0x.
-pub(crate) fn hex_digits(word: &[u8]) -> Option<&[u8]>
-    ensures { option_map (λ x. x.now) result ≡ hex_digits word.now }
+pub(crate) fn hex_digits(word: &str) -> Option<&str>
+    ensures { option_copied result ≡ hex_digits word.now }
 {
-    after(after(word, b'0')?, b'x')
+    word.strip_prefix("0x")
 }
 
 // The number that a word writes, decimal or with 0x in front.
-pub(crate) fn number(word: &[u8]) -> Result<u64, Misread>
+pub(crate) fn number(word: &str) -> Result<u64, Misread>
     ensures { result ≡ capped (number_in word.now) }
 {
     match hex_digits(word) {

@@ -1,17 +1,24 @@
 // The operands of an instruction: registers, numbers, widths, addresses and homes.
-ghost use Rattle.std.specs.Prelude.{◌≡◌, ◌≤◌, length, IfOk};
-ghost use Rattle.std.specs.Option.{option_map};
+ghost use Rattle.std.specs.Prelude.{◌≡◌, ◌≤◌, IfOk};
+ghost use Rattle.std.specs.Option.{ok_or, option_copied, option_map};
 ghost use Rattle.std.specs.Result.{result_ok};
-ghost use Rattle.text.specs.Operands.{address_in, before_byte, bounded_by, bracketed_in, home_in, is_sign, negated, number_up_to, offset_in, plain_front, register_in, target_in, width_in};
+ghost use Rattle.std.specs.Str.{IsCharBoundary};
+ghost use Rattle.text.specs.declared.numeral.Misread.TheVariants.{TooLarge};
+ghost use Rattle.text.specs.Operands.{address_in, at_most, bracketed_in, home_in, negated, number_up_to, offset_in, plain_front, register_in, target_in, width_in, width_of};
 
 use crate::name::is_name;
-use crate::numeral::{Misread, after, number, numeral};
+use crate::numeral::{Misread, number, numeral};
 use crate::problem::Problem;
+use isa::fields::{MOST_HOME, MOST_IMM, MOST_REGISTER};
+use isa::kind::Width;
 
-// The largest number of an instruction.
-pub const MOST_IMM: u64 = 65535;
+// How many numbers an instruction can hold.
+const IMMS: u64 = MOST_IMM + 1;
 
-const MOST_HOME: u64 = 1023;
+// How far an offset goes up, and down.
+const MOST_UP: u64 = 32767;
+
+const MOST_DOWN: u64 = 32768;
 
 // A register and a signed offset, as 16 bits of two's complement.
 #[derive(Clone, Copy)]
@@ -20,154 +27,133 @@ pub struct Address {
     pub offset: u64,
 }
 
-// A reader's answer, where numbers above `most` are too large.
-fn at_most(read: Result<u64, Misread>, most: u64) -> Result<u64, Misread>
-    ensures value { result ≡ bounded_by most read }
+// The number, unless it is above `most`.
+fn at_most(n: u64, most: u64) -> Result<u64, Misread>
+    ensures value { result ≡ ok_or (at_most most n) TooLarge }
     ensures bound { IfOk result (λ n. n ≤ most) }
 {
-    match read {
-        Ok(n) if n > most => Err(Misread::TooLarge),
-        other => other,
+    if n <= most {
+        Ok(n)
+    } else {
+        Err(Misread::TooLarge)
     }
 }
 
-fn register_number(name: &[u8]) -> Result<u64, Misread>
+fn register_number(name: &str) -> Result<u64, Misread>
     ensures { result_ok result ≡ register_in name.now }
 {
-    let Some(digits) = after(name, b'r') else {
-        return Err(Misread::NoNumber);
-    };
-    at_most(numeral(digits, 10), 63)
+    let digits = name.strip_prefix('r').ok_or(Misread::NoNumber)?;
+    at_most(numeral(digits, 10)?, MOST_REGISTER)
 }
 
 pub fn register_in(word: &str) -> Result<u64, Problem<'_>>
     ensures { result_ok result ≡ register_in word.now }
 {
-    match register_number(word.as_bytes()) {
-        Ok(n) => Ok(n),
-        Err(Misread::NoNumber) => Err(Problem::NotRegister(word)),
-        Err(Misread::TooLarge) => Err(Problem::RegisterTooLarge(word)),
-    }
+    register_number(word).map_err(|e| e.told(
+        Problem::NotRegister(word),
+        Problem::RegisterTooLarge(word),
+    ))
 }
 
 // The number that a word writes, at most `most`.
-fn bounded_number(word: &[u8], most: u64) -> Result<u64, Misread>
+fn bounded_number(word: &str, most: u64) -> Result<u64, Misread>
     ensures value { result_ok result ≡ number_up_to most word.now }
     ensures bound { IfOk result (λ n. n ≤ most) }
 {
-    at_most(number(word), most)
+    at_most(number(word)?, most)
 }
 
 pub fn number_up_to(word: &str, most: u64) -> Result<u64, Problem<'_>>
     ensures { result_ok result ≡ number_up_to most word.now }
 {
-    match bounded_number(word.as_bytes(), most) {
-        Ok(n) => Ok(n),
-        Err(Misread::NoNumber) => Err(Problem::NotNumber(word)),
-        Err(Misread::TooLarge) => Err(Problem::NumberTooLarge { word, most }),
+    bounded_number(word, most).map_err(|e| e.told(
+        Problem::NotNumber(word),
+        Problem::NumberTooLarge { word, most },
+    ))
+}
+
+// The width that has so many bytes.
+fn width_of(bytes: u64) -> Option<Width>
+    ensures { result ≡ width_of bytes }
+{
+    match bytes {
+        1 => Some(Width::One),
+        2 => Some(Width::Two),
+        4 => Some(Width::Four),
+        _ => None,
     }
 }
 
-// The number of the width that so many bytes have.
-pub fn width_in(word: &str) -> Result<u64, Problem<'_>>
+pub fn width_in(word: &str) -> Result<Width, Problem<'_>>
     ensures { result_ok result ≡ width_in word.now }
 {
-    match number(word.as_bytes()) {
-        Ok(1) => Ok(0),
-        Ok(2) => Ok(1),
-        Ok(4) => Ok(2),
-        _ => Err(Problem::NotWidth(word)),
-    }
+    number(word)
+        .ok()
+        .and_then(width_of)
+        .ok_or(Problem::NotWidth(word))
 }
 
 // The place that a target says, 0 where it is a label.
 pub fn target_in(word: &str) -> Result<u64, Problem<'_>>
     ensures { result_ok result ≡ target_in word.now }
 {
-    if is_name(word.as_bytes()) {
+    if is_name(word) {
         return Ok(0);
     }
-    match bounded_number(word.as_bytes(), MOST_IMM) {
-        Ok(n) => Ok(n),
-        Err(Misread::NoNumber) => Err(Problem::NotTarget(word)),
-        Err(Misread::TooLarge) => Err(Problem::NumberTooLarge {
-            word,
-            most: MOST_IMM,
-        }),
-    }
+    let most = MOST_IMM;
+    bounded_number(word, most).map_err(|e| e.told(
+        Problem::NotTarget(word),
+        Problem::NumberTooLarge { word, most },
+    ))
 }
 
 // The home that a word @H gives; none where the word is another.
 pub fn home_in(word: &str) -> Option<Result<u64, Problem<'_>>>
     ensures { option_map result_ok result ≡ home_in word.now }
 {
-    let digits = word.strip_prefix('@')?;
-    Some(number_up_to(digits, MOST_HOME))
+    word.strip_prefix('@')
+        .map(|digits| number_up_to(digits, MOST_HOME))
 }
 
-fn is_sign(byte: u8) -> bool
-    ensures { result ≡ is_sign byte }
+// Where the first sign stands, or the end.
+fn sign_place(text: &str) -> usize
+    ensures value { result ≡ plain_front text.now }
+    ensures cuts { IsCharBoundary text.now result }
 {
-    byte == b'+' || byte == b'-'
+    text.find(['+', '-']).unwrap_or(text.len())
 }
 
-// How many bytes stand before the first sign.
-fn sign_place(bytes: &[u8]) -> usize
-    ensures value { result ≡ plain_front bytes.now }
-    ensures bound { result ≤ length bytes.now }
+fn bracketed(word: &str) -> Option<&str>
+    ensures { option_copied result ≡ bracketed_in word.now }
 {
-    for (i, byte) in bytes.iter().enumerate() {
-        if is_sign(*byte) {
-            return i;
-        }
-    }
-    bytes.len()
+    word.strip_prefix('[')?.strip_suffix(']')
 }
 
-// The bytes before a last one, where that is `back`.
-pub fn before(bytes: &[u8], back: u8) -> Option<&[u8]>
-    ensures { option_map (λ x. x.now) result ≡ before_byte back bytes.now }
+// Minus the number that digits write, as 16 bits of two's complement.
+fn negative(digits: &str) -> Result<u64, Misread>
+    ensures { result_ok result ≡ option_map negated (number_up_to MOST_DOWN digits.now) }
 {
-    let (last, rest) = bytes.split_last()?;
-    if *last == back { Some(rest) } else { None }
-}
-
-fn bracketed(word: &[u8]) -> Option<&[u8]>
-    ensures { option_map (λ x. x.now) result ≡ bracketed_in word.now }
-{
-    before(after(word, b'[')?, b']')
-}
-
-// What digits take away, as 16 bits of two's complement.
-fn negative(digits: &[u8]) -> Result<u64, Misread>
-    ensures { result_ok result ≡ option_map negated (number_up_to 32768 digits.now) }
-{
-    match bounded_number(digits, 32768) {
-        Ok(n) => Ok((65536 - n) % 65536),
-        Err(e) => Err(e),
-    }
+    let n = bounded_number(digits, MOST_DOWN)?;
+    Ok((IMMS - n) % IMMS)
 }
 
 // A signed offset, and 0 where there is none.
-fn offset(signed: &[u8]) -> Result<u64, Misread>
+fn offset(signed: &str) -> Result<u64, Misread>
     ensures { result_ok result ≡ offset_in signed.now }
 {
-    match signed.split_first() {
-        None => Ok(0),
-        Some((sign, digits)) => match *sign {
-            b'+' => bounded_number(digits, 32767),
-            b'-' => negative(digits),
-            _ => Err(Misread::NoNumber),
-        },
+    if signed.is_empty() {
+        return Ok(0);
     }
+    if let Some(digits) = signed.strip_prefix('+') {
+        return bounded_number(digits, MOST_UP);
+    }
+    negative(signed.strip_prefix('-').ok_or(Misread::NoNumber)?)
 }
 
 pub fn address_in(word: &str) -> Result<Address, Problem<'_>>
     ensures { result_ok result ≡ address_in word.now }
 {
-    let Some(inner) = bracketed(word.as_bytes()) else {
-        return Err(Problem::NotAddress(word));
-    };
+    let inner = bracketed(word).ok_or(Problem::NotAddress(word))?;
     let (name, signed) = inner.split_at(sign_place(inner));
     match (register_number(name), offset(signed)) {
         (Ok(base), Ok(offset)) => Ok(Address { base, offset }),

@@ -1,54 +1,89 @@
 // What is wrong with a line of instruction text, and how that is told.
 ghost use Rattle.std.specs.Prelude.{◌≡◌};
-ghost use Rattle.text.specs.declared.problem.Problem.TheVariants.{Memory};
+ghost use Rattle.text.specs.declared.problem.Problem.TheVariants.{Memory, Refused};
 
 use isa::kind::Kind;
 use isa::refusal::WordRefusal;
 use std::alloc::{AllocError, AllocFailed};
 use std::fmt;
+use thiserror::Error;
 
-#[derive(Clone, Copy)]
+#[derive(Clone, Copy, PartialEq, Eq, Debug, Error)]
 pub enum Problem<'a> {
+    #[error("unknown mnemonic {}", Quoted(*.0))]
     UnknownMnemonic(&'a str),
-    TooFewWords { kind: Kind, operands: usize },
-    TooManyWords { kind: Kind, operands: usize },
+    #[error("too {} words: {kind} takes {wanted} operands", amount(*.given, *.wanted))]
+    OperandCount {
+        kind: Kind,
+        wanted: usize,
+        given: usize,
+    },
+    #[error("{} is not a register", Quoted(*.0))]
     NotRegister(&'a str),
+    #[error("{}: registers are r0 to r63", Quoted(*.0))]
     RegisterTooLarge(&'a str),
+    #[error("{} is not a number", Quoted(*.0))]
     NotNumber(&'a str),
-    NumberTooLarge { word: &'a str, most: u64 },
+    #[error("{} is out of range, 0 to {most}", Quoted(*.word))]
+    NumberTooLarge {
+        word: &'a str,
+        most: u64,
+    },
+    #[error("{}: the offset is out of range, -32768 to 32767", Quoted(*.0))]
     OffsetTooLarge(&'a str),
+    #[error("{} is not a width: 1, 2 or 4", Quoted(*.0))]
     NotWidth(&'a str),
+    #[error("{} is not an address", Quoted(*.0))]
     NotAddress(&'a str),
+    #[error("{} is not a word: 0x and 1 to 16 hex digits", Quoted(*.0))]
     NotWord(&'a str),
-    // neither a place nor a label
+    #[error("{} is not a place or a label", Quoted(*.0))]
     NotTarget(&'a str),
+    #[error("{} is not a label name", Quoted(*.0))]
     NotLabel(&'a str),
-    DefinedTwice { label: &'a str, first: usize },
+    #[error("label {} is defined in line {first} too", Quoted(*.label))]
+    DefinedTwice {
+        label: &'a str,
+        first: usize,
+    },
+    #[error("label {} is not defined", Quoted(*.0))]
     Undefined(&'a str),
+    #[error("more than {0} instructions")]
     TooManyInstructions(usize),
+    #[error("more than {0} labels")]
     TooManyLabels(usize),
     // the fields make no instruction
+    #[error(transparent)]
     Refused(WordRefusal),
     // a listing's line stands at another place than it says
-    WrongPlace { word: &'a str, place: usize },
+    #[error("{} is not the place of this line, {place}", Quoted(*.word))]
+    WrongPlace {
+        word: &'a str,
+        place: usize,
+    },
     // a listing's text is not that of its word
+    #[error("the text does not agree with the word 0x{0:016x}")]
     Disagrees(u64),
+    #[error("out of memory")]
     Memory,
 }
 
-// A word of the input as a message shows it: a long one is cut, and control characters are left out.
+// Whether few or many words were given.
+fn amount(given: usize, wanted: usize) -> &'static str {
+    if given < wanted { "few" } else { "many" }
+}
+
+// A word of the input as a message shows it: cut where it is long, and without control characters.
 #[derive(Clone, Copy)]
 struct Quoted<'a>(&'a str);
 
 impl fmt::Display for Quoted<'_> {
     fn fmt<W: fmt::Write>(&self, f: &mut fmt::Formatter<W>) -> fmt::Result {
         write!(f, "'")?;
-        for c in self.0.chars().take(SHOWN) {
-            if c >= ' ' {
-                write!(f, "{c}")?;
-            }
+        for c in self.0.chars().take(SHOWN).filter(|c| *c >= ' ') {
+            write!(f, "{c}")?;
         }
-        if self.0.chars().count() > SHOWN {
+        if self.0.chars().nth(SHOWN).is_some() {
             write!(f, "..")?;
         }
         write!(f, "'")
@@ -58,62 +93,7 @@ impl fmt::Display for Quoted<'_> {
 // How many characters of a word a message shows.
 const SHOWN: usize = 32;
 
-impl fmt::Display for Problem<'_> {
-    fn fmt<W: fmt::Write>(&self, f: &mut fmt::Formatter<W>) -> fmt::Result {
-        match *self {
-            Problem::UnknownMnemonic(word) => write!(f, "unknown mnemonic {}", Quoted(word)),
-            Problem::TooFewWords { kind, operands } => {
-                let mnemonic = kind.mnemonic();
-                write!(f, "too few words: {mnemonic} takes {operands} operands")
-            }
-            Problem::TooManyWords { kind, operands } => {
-                let mnemonic = kind.mnemonic();
-                write!(f, "too many words: {mnemonic} takes {operands} operands")
-            }
-            Problem::NotRegister(word) => write!(f, "{} is not a register", Quoted(word)),
-            Problem::RegisterTooLarge(word) => {
-                write!(f, "{}: registers are r0 to r63", Quoted(word))
-            }
-            Problem::NotNumber(word) => write!(f, "{} is not a number", Quoted(word)),
-            Problem::NumberTooLarge { word, most } => {
-                write!(f, "{} is out of range, 0 to {most}", Quoted(word))
-            }
-            Problem::OffsetTooLarge(word) => {
-                write!(
-                    f,
-                    "{}: the offset is out of range, -32768 to 32767",
-                    Quoted(word)
-                )
-            }
-            Problem::NotWidth(word) => write!(f, "{} is not a width: 1, 2 or 4", Quoted(word)),
-            Problem::NotAddress(word) => write!(f, "{} is not an address", Quoted(word)),
-            Problem::NotWord(word) => {
-                write!(
-                    f,
-                    "{} is not a word: 0x and 1 to 16 hex digits",
-                    Quoted(word)
-                )
-            }
-            Problem::NotTarget(word) => write!(f, "{} is not a place or a label", Quoted(word)),
-            Problem::NotLabel(word) => write!(f, "{} is not a label name", Quoted(word)),
-            Problem::DefinedTwice { label, first } => {
-                write!(f, "label {} is defined in line {first} too", Quoted(label))
-            }
-            Problem::Undefined(label) => write!(f, "label {} is not defined", Quoted(label)),
-            Problem::TooManyInstructions(most) => write!(f, "more than {most} instructions"),
-            Problem::TooManyLabels(most) => write!(f, "more than {most} labels"),
-            Problem::Refused(refusal) => write!(f, "{refusal}"),
-            Problem::WrongPlace { word, place } => {
-                write!(f, "{} is not the place of this line, {place}", Quoted(word))
-            }
-            Problem::Disagrees(word) => {
-                write!(f, "the text does not agree with the word 0x{word:016x}")
-            }
-            Problem::Memory => write!(f, "out of memory"),
-        }
-    }
-}
-
+// The conversions say which problem they give, which the derive's would not.
 impl From<AllocError> for Problem<'_> {
     ghost from_gives = { λ _ r. r ≡ Memory };
 
@@ -130,16 +110,17 @@ impl<T: Drop> From<AllocFailed<T>> for Problem<'_> {
     }
 }
 
-#[derive(Clone, Copy)]
+impl From<WordRefusal> for Problem<'_> {
+    ghost from_gives = { λ refusal r. r ≡ Refused refusal };
+
+    fn from(refusal: WordRefusal) -> Self {
+        Problem::Refused(refusal)
+    }
+}
+
+#[derive(Clone, Copy, PartialEq, Eq, Debug, Error)]
+#[error("line {line}: {problem}")]
 pub struct TextError<'a> {
     pub line: usize,
     pub problem: Problem<'a>,
-}
-
-impl fmt::Display for TextError<'_> {
-    fn fmt<W: fmt::Write>(&self, f: &mut fmt::Formatter<W>) -> fmt::Result {
-        let line = self.line;
-        let problem = self.problem;
-        write!(f, "line {line}: {problem}")
-    }
 }

@@ -3,8 +3,8 @@
 
 #[cfg(test)]
 mod tests {
-    use std::alloc::Global;
-    use std::fmt::Write;
+    use std::alloc::{AllocError, Global};
+    use std::process::Abort;
     use std::test::Fail;
     use text::assembler::assemble;
     use text::listing::Listed;
@@ -112,54 +112,49 @@ mod tests {
     ];
 
     // The words of a text, or what is wrong with it.
-    fn said(heap: Global, text: &str) -> Result<String, Fail> {
-        let mut lines = String::new(heap);
-        match assemble(heap, text, 3) {
-            Ok(words) => write!(lines, "{words:?}")?,
-            Err(error) => write!(lines, "{error}")?,
+    fn said(alloc: Global, text: &str) -> Result<String, AllocError> {
+        match assemble(alloc, text, 3) {
+            Ok(words) => format!(in alloc; "{words:?}"),
+            Err(error) => format!(in alloc; "{error}"),
         }
-        Ok(lines)
+    }
+
+    // The text has one instruction, and this is its word.
+    fn has_word(rt: &impl Abort, alloc: Global, text: &str, word: u64) -> Result<(), Fail> {
+        let words = assemble(alloc, text, 1).map_err(|_| "refused")?;
+        assert_eq!(rt; words.as_slice(), [word].as_slice());
+        Ok(())
     }
 
     #[test]
     fn lines_to_words_and_back(rt: HostRuntime) -> Result<(), Fail> {
-        let heap = rt.alloc();
-        for (line, word) in LINES.iter() {
-            let words = assemble(heap, line, 1).ok().ok_or("refused")?;
-            assert!(rt; words.len() == 1);
-            assert_eq!(rt; words[0], *word);
-            let listed = Listed {
-                place: 0,
-                word: *word,
-            };
-            let shown = format!(in heap; "{listed}")?;
-            let wanted = format!(in heap; "0  0x{word:016x}  {line}")?;
+        let alloc = rt.alloc();
+        for (line, word) in LINES {
+            has_word(&rt, alloc, line, word)?;
+            let listed = Listed { place: 0, word };
+            let shown = format!(in alloc; "{listed}")?;
+            let wanted = format!(in alloc; "0  0x{word:016x}  {line}")?;
             assert_eq!(rt; shown.as_str(), wanted.as_str());
-            let again = assemble(heap, shown.as_str(), 1)
-                .ok()
-                .ok_or("listing refused")?;
-            assert!(rt; again.len() == 1);
-            assert_eq!(rt; again[0], *word);
+            has_word(&rt, alloc, shown.as_str(), word)?;
         }
         Ok(())
     }
 
     #[test]
     fn messages(rt: HostRuntime) -> Result<(), Fail> {
-        let heap = rt.alloc();
-        for (text, message) in MESSAGES.iter() {
-            let said = said(heap, text)?;
-            assert_eq!(rt; said.as_str(), *message);
+        for (text, message) in MESSAGES {
+            let said = said(rt.alloc(), text)?;
+            assert_eq!(rt; said.as_str(), message);
         }
         Ok(())
     }
 
     #[test]
     fn labels_comments_and_words(rt: HostRuntime) -> Result<(), Fail> {
-        let heap = rt.alloc();
+        let alloc = rt.alloc();
         let text = "# two labels\r\na: b_1:\tjump c # on\n\n0xFFFFFFFFFFFFFFFF\nc: jump b_1";
-        let words = said(heap, text)?;
-        let wanted = format!(in heap;
+        let words = said(alloc, text)?;
+        let wanted = format!(in alloc;
             "{:?}",
             [0x7000000000000002u64, u64::MAX, 0x7000000000000000]
         )?;

@@ -2,4 +2,4 @@ use Rattle.std.proofs.Common.{◌≡◌}
 use Rattle.text.proofs.assembler.assemble.Given as goal
 
 abbrev pub invariant-loop-i : goal.invariant-loop-i
-invariant-loop-i l = l.assembler.most ≡ l.most
+invariant-loop-i l = l.assembler.drafts.most ≡ l.most

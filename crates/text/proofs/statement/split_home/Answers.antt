@@ -1,25 +1,18 @@
-use Rattle.std.proofs.Common.{map, Some, sym, ap, ◌∙◌}
-use Rattle.std.specs.Result.{result_ok}
-use Rattle.text.specs.Statements.{home_by}
-use Rattle.text.proofs.Lasts.{home_split_none, home_split_push}
+use Rattle.std.proofs.Common.{Some, None}
+use Rattle.std.proofs.lemmas.Result.{err_from_is_err_and}
+use Rattle.text.proofs.Lasts.{home_split_push}
 use Rattle.text.proofs.statement.split_home.Goals as goal
 
-pub returns-in_default : goal.returns-in_default
-returns-in_default c = sym (home_split_none c.args.words.now c.in_default.ensures.cases)
+pub returns-in-None : goal.returns-in-None
+returns-in-None c = home_split_push _ _ _ None c.in-Some.ensures.cases.0 c.in-None.ensures
 
-pub returns-in_default-home_in : goal.returns-in_default-home_in
-returns-in_default-home_in c =
-    ap (λ o. home_by o (map (λ x. x.now) c.in-Some.front.now) (map (λ x. x.now) c.args.words.now)) c.in_default-home_in.ensures
-    ∙ sym (home_split_push c.args.words.now c.in-Some.front.now c.in-Some.last.now c.in-Some.ensures.cases.0)
+pub returns-in_ok-home-in-Some-home_in : goal.returns-in_ok-home-in-Some-home_in
+returns-in_ok-home-in-Some-home_in c =
+    let read = rw c.in_ok-home-in-Some-home_in.was at c.in-Some-home_in.ensures in
+    home_split_push _ _ _ (Some (Some c.in_ok-home-in-Some-home_in.field-0)) c.in-Some.ensures.cases.0 read
 
-pub returns-in-Ok : goal.returns-in-Ok
-returns-in-Ok c =
-    ap (λ x. home_by (Some (result_ok x)) (map (λ x. x.now) c.in-Some.front.now) (map (λ x. x.now) c.args.words.now)) (sym c.in-Ok.is)
-    ∙ ap (λ o. home_by o (map (λ x. x.now) c.in-Some.front.now) (map (λ x. x.now) c.args.words.now)) c.in-Some-home_in.ensures
-    ∙ sym (home_split_push c.args.words.now c.in-Some.front.now c.in-Some.last.now c.in-Some.ensures.cases.0)
-
-pub returns-in-Err : goal.returns-in-Err
-returns-in-Err c =
-    ap (λ x. home_by (Some (result_ok x)) (map (λ x. x.now) c.in-Some.front.now) (map (λ x. x.now) c.args.words.now)) (sym c.in-Err.is)
-    ∙ ap (λ o. home_by o (map (λ x. x.now) c.in-Some.front.now) (map (λ x. x.now) c.args.words.now)) c.in-Some-home_in.ensures
-    ∙ sym (home_split_push c.args.words.now c.in-Some.front.now c.in-Some.last.now c.in-Some.ensures.cases.0)
+pub returns-in_err-home-in-Some-home_in : goal.returns-in_err-home-in-Some-home_in
+returns-in_err-home-in-Some-home_in c =
+    let failed = err_from_is_err_and c.from_residual.result c.from_residual.ensures.1 in
+    let read = rw c.in_err-home-in-Some-home_in.was at c.in-Some-home_in.ensures in
+    rw failed.1 (home_split_push _ _ _ (Some None) c.in-Some.ensures.cases.0 read)
