@@ -5,7 +5,7 @@ ghost use Rattle.std.specs.Prelude.{◌≡◌};
 ghost use Rattle.host.specs.Exports.{unpack_number, unpack_fields};
 
 // Answers 0 and writes kind, width, d, a, b, home and imm into `fields`, as many as it has room for; or answers the
-// refusal's number and writes nothing.
+// refusal's number and writes nothing. A number stands for the Result, as the C interface needs.
 #[unsafe(no_mangle)]
 pub extern "C" fn nadvoszip_unpack(word: u64, fields: &mut [u64]) -> u64
     ensures number { result ≡ unpack_number word }

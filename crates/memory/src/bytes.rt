@@ -1,5 +1,6 @@
 // Numbers in a slice of bytes, the low byte first.
-// An arm for each width, for speed: a copy of w bytes was tried, and takes 4.8 ns for a store in place of 2.0.
+// An arm for each width, for speed: by a copy of w bytes, which was tried, a store takes 4.8 ns in place of 2.0, and a
+// read 7.4 in place of 2.0.
 ghost use Rattle.std.specs.Prelude.{◌≡◌, slice_index};
 ghost use Rattle.memory.specs.Bytes.{Room, number_at, stored_in};
 

@@ -50,12 +50,20 @@ impl<'a> Assembler<'a> {
         ensures err { OnErr result (IsUnchanged self.old.drafts self.new.drafts) }
     {
         let words = words_of(self.alloc, text)?;
-        let mark = Mark {
-            place: self.drafts.len(),
-            line: number,
-        };
+        let mark = self.next_mark(number);
         let rest = self.labels.mark_all(words.as_slice(), mark)?;
         self.drafts.add(number, rest)
+    }
+
+    // Where the labels of a line stand: at the place of the next instruction.
+    fn next_mark(&self, line: usize) -> Mark
+        ensures place { result.place ≡ vec_len self.now.drafts.items }
+        ensures line { result.line ≡ line }
+    {
+        Mark {
+            place: self.drafts.len(),
+            line,
+        }
     }
 
     // The words of the program.
@@ -73,9 +81,8 @@ pub fn assemble<'a>(alloc: Global, text: &'a str, most: usize) -> Result<Vec<u64
     ensures { IfOk result (λ v. vec_len v ≤ most) }
 {
     let mut assembler = Assembler::new(alloc, most);
-    // the index, since messages tell the number of a line
-    for (i, line) in text.lines().enumerate() {
-        assembler.line(i + 1, line)?;
+    for (number, line) in (1..).zip(text.lines()) {
+        assembler.line(number, line)?;
     }
     assembler.finish()
 }

@@ -96,6 +96,7 @@ impl<'a> Drafts<'a> {
         ensures words { IfOk result (λ v. AllBecome labels.now self.now.items.items v.items) }
     {
         let mut words = Vec::new(alloc);
+        // a `for`: `try_collect` would have to tell of memory too, and that in a line
         for drafted in &self.items {
             let line = drafted.line;
             drafted

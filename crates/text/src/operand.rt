@@ -72,7 +72,7 @@ pub fn number_up_to(word: &str, most: u64) -> Result<u64, Problem<'_>>
     ))
 }
 
-// The width that has so many bytes.
+// The width that has so many bytes, by an arm for each: a search of all widths by their bytes is no shorter.
 fn width_of(bytes: u64) -> Option<Width>
     ensures { result ≡ width_of bytes }
 {
@@ -155,6 +155,7 @@ pub fn address_in(word: &str) -> Result<Address, Problem<'_>>
 {
     let inner = bracketed(word).ok_or(Problem::NotAddress(word))?;
     let (name, signed) = inner.split_at(sign_place(inner));
+    // no `?`: what is no address at all is told before what is too large
     match (register_number(name), offset(signed)) {
         (Ok(base), Ok(offset)) => Ok(Address { base, offset }),
         (Err(Misread::NoNumber), _) | (_, Err(Misread::NoNumber)) => Err(Problem::NotAddress(word)),

@@ -41,6 +41,7 @@ fn fields_read<'a>(kind: Kind, home: u64, operands: &[&'a str]) -> Result<Fields
         home,
         ..Fields::default()
     };
+    // a `for`: with `try_fold` no short proof was found
     for (slot, word) in slots.iter().zip(operands) {
         fields = slot.fill(fields, word)?;
     }
