@@ -3,4 +3,5 @@ mod Edges
 mod Readings
 mod Lasts
 mod Fronts
+mod Marking
 mod Naming

@@ -1,5 +1,5 @@
 -- The labels in front of a line, and the table of all labels with where each stands.
-use Rattle.std.specs.Prelude.{ℕ, Bool, List, drop, codes, is_some, Some, Option}
+use Rattle.std.specs.Prelude.{◌≡◌, ℕ, ◌⊎◌, Bool, List, drop, codes, is_some, Some, Option}
 use Rattle.std.specs.declared.cmp.Ordering.{Ordering}
 use Rattle.std.specs.Borrow.{Bor}
 use Rattle.std.specs.BTreeMap.{Updates, get_by}
@@ -32,3 +32,8 @@ Marked old new label mark = Updates by_bytes old.marks new.marks label (Some mar
 -- the mark at the label of these bytes
 abbrev pub at_label : Labels → List ℕ → Option Mark
 at_label labels bytes = get_by (λ key. slice_cmp nat_cmp bytes key.now) labels.marks
+
+-- each label has the mark that it had, or this one
+abbrev pub OnlyAdds : Labels → Labels → Mark → Type 0
+OnlyAdds old new mark =
+    (label : List ℕ) → (at_label new label ≡ at_label old label) ⊎ (at_label new label ≡ Some mark)

@@ -12,7 +12,7 @@ use std::alloc::Global;
 
 // What a line gave, with the line's number for messages.
 #[derive(Clone, Copy, PartialEq, Eq, Debug)]
-pub struct Drafted<'a> {
+pub(crate) struct Drafted<'a> {
     pub draft: Draft<'a>,
     pub line: usize,
 }
@@ -48,7 +48,7 @@ impl<'a> Drafted<'a> {
 
 // The drafts of a program of at most `most` instructions.
 #[derive(Drop)]
-pub struct Drafts<'a> {
+pub(crate) struct Drafts<'a> {
     most: usize,
     items: Vec<Drafted<'a>>,
     ghost short: { vec_len items ≤ most },
@@ -57,7 +57,7 @@ pub struct Drafts<'a> {
 impl<'a> Drafts<'a> {
     ghost use Rattle.text.specs.Drafts.{Added, AllBecome, IsUnchanged};
 
-    pub fn new(alloc: Global, most: usize) -> Drafts<'a>
+    pub(crate) fn new(alloc: Global, most: usize) -> Drafts<'a>
         ensures most { result.most ≡ most }
         ensures empty { vec_len result.items ≡ 0 }
     {
@@ -67,14 +67,14 @@ impl<'a> Drafts<'a> {
         }
     }
 
-    pub fn len(&self) -> usize
+    pub(crate) fn len(&self) -> usize
         ensures { result ≡ vec_len self.now.items }
     {
         self.items.len()
     }
 
     // Adds the instruction of a line, if the line's words after its labels are any.
-    pub fn add(&mut self, line: usize, words: &[&'a str]) -> Result<(), Problem<'a>>
+    pub(crate) fn add(&mut self, line: usize, words: &[&'a str]) -> Result<(), Problem<'a>>
         ensures ok { OnOk result (Added line (texts words.now) self.old self.new) }
         ensures err { OnErr result (IsUnchanged self.old self.new) }
     {
@@ -91,7 +91,11 @@ impl<'a> Drafts<'a> {
     }
 
     // The words of the program, with each label's place in the instructions that go to it.
-    pub fn words(&self, alloc: Global, labels: &Labels<'a>) -> Result<Vec<u64>, TextError<'a>>
+    pub(crate) fn words(
+        &self,
+        alloc: Global,
+        labels: &Labels<'a>,
+    ) -> Result<Vec<u64>, TextError<'a>>
         ensures len { IfOk result (λ v. vec_len v ≡ vec_len self.now.items) }
         ensures words { IfOk result (λ v. AllBecome labels.now self.now.items.items v.items) }
     {

@@ -16,14 +16,14 @@ const MOST_LABELS: usize = 16384;
 
 // Where a label stands: the place of the instruction after it, and the line's number for messages.
 #[derive(Clone, Copy, PartialEq, Eq, Debug)]
-pub struct Mark {
+pub(crate) struct Mark {
     pub place: usize,
     pub line: usize,
 }
 
 // What stands before a word's last colon, where it ends with one.
 #[tactic(auto, using(crate::proofs::Edges::strips_colon))]
-pub fn before_colon(word: &str) -> Option<&str>
+pub(crate) fn before_colon(word: &str) -> Option<&str>
     ensures { option_copied result ≡ before_colon word.now }
 {
     word.strip_suffix(':')
@@ -41,14 +41,14 @@ fn count_labels(words: &[&str]) -> usize
 }
 
 #[derive(Drop)]
-pub struct Labels<'a> {
+pub(crate) struct Labels<'a> {
     marks: BTreeMap<&'a str, Mark>,
 }
 
 impl<'a> Labels<'a> {
-    ghost use Rattle.text.specs.Marks.{Marked, after_labels, at_label};
+    ghost use Rattle.text.specs.Marks.{Marked, OnlyAdds, after_labels, at_label};
 
-    pub fn new(alloc: Global) -> Labels<'a>
+    pub(crate) fn new(alloc: Global) -> Labels<'a>
         ensures { IsEmpty result.marks }
     {
         Labels {
@@ -57,7 +57,7 @@ impl<'a> Labels<'a> {
     }
 
     // The place of the instruction after a label.
-    pub fn place_of(&self, label: &str) -> Option<usize>
+    pub(crate) fn place_of(&self, label: &str) -> Option<usize>
         ensures { result ≡ option_map (λ mark. mark.place) (at_label self.now label.now) }
     {
         self.marks.get(label).map(|mark| mark.place)
@@ -86,12 +86,13 @@ impl<'a> Labels<'a> {
 
     // Marks the labels in front of a line, and gives the words after them.
     #[tactic(auto, using(crate::proofs::Fronts::texts_drop))]
-    pub fn mark_all<'w>(
+    pub(crate) fn mark_all<'w>(
         &mut self,
         words: &'w [&'a str],
         mark: Mark,
     ) -> Result<&'w [&'a str], Problem<'a>>
-        ensures { IfOk result (λ rest. texts rest.now ≡ after_labels (texts words.now)) }
+        ensures rest { IfOk result (λ rest. texts rest.now ≡ after_labels (texts words.now)) }
+        ensures marks { OnlyAdds self.old self.new mark }
     {
         let (labels, rest) = words.split_at(count_labels(words));
         for label in labels.iter().filter_map(|word| before_colon(word)) {
