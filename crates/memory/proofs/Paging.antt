@@ -1,9 +1,8 @@
 -- The paged memory: its marks, and where it finds the bytes of an access.
-use Rattle.std.specs.Prelude.{◌≡◌, ℕ, ◌+◌, ◌-◌, ◌*◌, ◌/◌, ◌%◌, ◌≤◌, true, false, not, List, length, Some, None, Option}
+use Rattle.std.specs.Prelude.{◌≡◌, ℕ, ◌+◌, ◌-◌, ◌/◌, ◌%◌, ◌≤◌, true, false, not, List, length, Some, None, Option}
 use Rattle.std.proofs.Common.{sym, ◌∙◌, inl, inr, arith}
 use Rattle.std.proofs.Math.Path.{ap}
-use Rattle.std.proofs.lemmas.Bool.{and_from, and_parts, both_ways, cases_Bool}
-use Rattle.std.proofs.lemmas.Option.{same_Some}
+use Rattle.std.proofs.lemmas.Bool.{and_from, and_parts, both_ways, cases_Bool, eqb-true, true≢false}
 use Rattle.memory.specs.declared.access.Direction.{Direction}
 use Rattle.memory.specs.declared.page.Page.{Page}
 use Rattle.memory.specs.declared.paged.PagedMemory.{PagedMemory}
@@ -12,11 +11,11 @@ use Rattle.memory.specs.Blank.{page_of_granule}
 use Rattle.memory.specs.Calls.{with_bytes}
 use Rattle.memory.specs.Meaning.{Meaning, fault}
 use Rattle.memory.specs.Paged.{paged_bytes, paged_meaning_of, paged_waiting}
-use Rattle.memory.specs.Pages.{has_value, is_present, is_window, page_at, paged_meaning, place_in}
+use Rattle.memory.specs.Pages.{has_value, is_window, page_at, paged_meaning, place_in}
 use Rattle.memory.specs.Theorems.{OneWindow}
 use Rattle.memory.proofs.Accesses.{aligned_width, one_granule, within_bounds, within_from, within_granule}
 use Rattle.memory.proofs.Faulting.{fault_passed}
-use Rattle.memory.proofs.Settling.{holds_is, settled_apart, settled_inside, settles_pages, some_of}
+use Rattle.memory.proofs.Settling.{settled_apart, settled_inside, settles_pages}
 use Rattle.memory.proofs.Views.{Found, SideBySide, number_seen, stored_seen}
 
 -- the memory over any bytes, all else as it is
@@ -28,9 +27,9 @@ module _ (s : PagedMemory) (d : Direction) (x w : ℕ) (e : fault (paged_meaning
   shape : aligned x w ≡ true
   shape = (fault_passed (paged_meaning_of s) x w d e).shape
 
-  there : is_present (page_at s.pages (x / 256)) ≡ true
+  there : (page_at s.pages (x / 256)).present ≡ true
   unfolding paged_meaning
-  there = ap (λ p. is_present (page_at s.pages p)) (page_of_granule x) ∙ (fault_passed (paged_meaning_of s) x w d e).present
+  there = ap (λ p. (page_at s.pages p).present) (page_of_granule x) ∙ (fault_passed (paged_meaning_of s) x w d e).present
 
   same_page : (a : ℕ) → within x w a ≡ true → a / 256 ≡ x / 256
   same_page a i = omega (arith, within_granule x w a shape i)
@@ -38,14 +37,8 @@ module _ (s : PagedMemory) (d : Direction) (x w : ℕ) (e : fault (paged_meaning
   in_page : x % 256 + w ≤ 256
   in_page = omega (arith, one_granule x w shape)
 
-  framed : (f : ℕ) × ((page_at s.pages (x / 256)).frame ≡ Some f)
-  framed = some_of (page_at s.pages (x / 256)).frame there
-
-  placed : (a f : ℕ) → (page_at s.pages (a / 256)).frame ≡ Some f → place_in s.pages a ≡ 256 * f + a % 256
-  placed a f e = rw e
-
   paged_room : place_in s.pages x + w ≤ length (paged_bytes s)
-  paged_room = omega (arith, placed x framed.0 framed.1, s.bytes.ok.0, s.inside (x / 256) framed.0 framed.1, in_page)
+  paged_room = omega (arith, s.bytes.ok.0, s.inside (x / 256) there, in_page)
 
   follows : (a : ℕ) → within x w a ≡ true → place_in s.pages a ≡ place_in s.pages x + (a - x)
   follows a i =
@@ -57,17 +50,14 @@ module _ (s : PagedMemory) (d : Direction) (x w : ℕ) (e : fault (paged_meaning
   apart : (a : ℕ) → has_value s.pages s.window a ≡ true → within (place_in s.pages x) w (place_in s.pages a) ≡ true → within x w a ≡ true
   apart a h i =
       let b = within_bounds (place_in s.pages x) w (place_in s.pages a) i in
-      let f = some_of (page_at s.pages (a / 256)).frame (and_parts (is_present (page_at s.pages (a / 256))) _ h).0 in
-      let at = placed a f.0 f.1 in
-      let from = placed x framed.0 framed.1 in
-      let same : f.0 ≡ framed.0 = omega (arith, in_page) in
-      let page : x / 256 ≡ a / 256 = s.apart (x / 256) (a / 256) f.0 (framed.1 ∙ ap Some (sym same)) f.1 in
+      let frames : (page_at s.pages (x / 256)).frame ≡ (page_at s.pages (a / 256)).frame = omega (arith, in_page) in
+      let page : x / 256 ≡ a / 256 = s.apart (x / 256) (a / 256) there (and_parts (page_at s.pages (a / 256)).present _ h).0 frames in
       within_from x w a (omega arith) (omega arith)
 
   paged_side : SideBySide (has_value s.pages s.window) (place_in s.pages) x w
   paged_side = record {
     have = λ a i.
-        and_from _ _ (ap (λ p. is_present (page_at s.pages p)) (same_page a i) ∙ there)
+        and_from _ _ (ap (λ p. (page_at s.pages p).present) (same_page a i) ∙ there)
         (ap (λ g. not (is_window s.window g)) (within_granule x w a shape i) ∙ ap not plain);
     follow = follows;
     apart = λ a out h. not_within a out h;
@@ -90,7 +80,8 @@ module _ (s : PagedMemory) (d : Direction) (x w : ℕ) (e : fault (paged_meaning
   }
 
 one_granule_of : (win : Option ℕ) (g h : ℕ) → is_window win g ≡ true → is_window win h ≡ true → g ≡ h
-one_granule_of win g h p q = same_Some g h (sym (holds_is win g p) ∙ holds_is win h q)
+one_granule_of None g h p q = absurd (true≢false (sym p))
+one_granule_of (Some k) g h p q = sym (eqb-true k g p) ∙ eqb-true k h q
 
 pub one_window : (ps : List Page) (win : Option ℕ) (bs ws : List ℕ) → OneWindow (paged_meaning ps win bs ws)
 unfolding paged_meaning

@@ -1,12 +1,10 @@
 -- Pages that are settled from the lowest up: what the table holds then.
-use Rattle.std.specs.Prelude.{◌≡◌, ℕ, zero, suc, ◌+◌, ◌-◌, ◌*◌, ◌<◌, ◌≤◌, Bool, true, false, cond, not, List, [], ◌∷◌, ◌++◌, is_some, length, min, replicate, take, Some, None, Option, ◌≢◌, nat_eq, slice_set, refl}
-use Rattle.std.specs.Bool.{then_some}
-use Rattle.std.specs.Option.{option_eq}
+use Rattle.std.specs.Prelude.{◌≡◌, ℕ, zero, suc, ◌+◌, ◌-◌, ◌*◌, ◌<◌, ◌≤◌, Bool, true, false, not, ◌&&◌, List, [], ◌∷◌, ◌++◌, length, min, replicate, take, ◌==◌, ◌≢◌, slice_set, refl}
 use Rattle.std.proofs.Common.{append_assoc, append-nil, sym, ap, ◌∙◌, inl, inr, arith, add-one}
 use Rattle.std.proofs.lemmas.List.{get_or_append_left, get_or_at, get_or_past, length_push, set_at, take_at}
-use Rattle.std.proofs.lemmas.Bool.{and_from, and_parts, cases_eq, cases_lt, cases_order, eq-eqb, eqb-true, false_from_ne_true, le-leb, leb-true, or_from, or_left, or_right}
+use Rattle.std.proofs.lemmas.Bool.{and_from, and_parts, cases_eq, cases_lt, cases_order, eq-eqb, eqb-true, false_from_ne_true, le-leb, leb-true, or_from, or_left, or_right, true≢false}
 use Rattle.memory.specs.declared.page.Page.{Page}
-use Rattle.memory.specs.Pages.{FramesApart, FramesInside, has_frame, is_free, is_inside, is_present, no_page, page_at, settled, settled_frame, settled_page}
+use Rattle.memory.specs.Pages.{FramesApart, FramesInside, has_frame, is_inside, no_page, page_at, settled, settled_page}
 use Rattle.memory.specs.Theorems.{SettlesPages, new_page}
 
 pub length-settled : (n : ℕ) (given : List Page) (k : ℕ) → length (settled n given k) ≡ k
@@ -69,96 +67,84 @@ page_at-settled n given (suc k) p h =
           get_or_append_left (settled n given k) _ no_page p (omega (arith, length-settled n given k)) ∙ page_at-settled n given k p (omega arith)
     ]
 
--- an option that holds a number, and a test for it
-pub some_of : (o : Option ℕ) → is_some o ≡ true → (f : ℕ) × (o ≡ Some f)
-some_of None e = cc
-some_of (Some f) e = (f, refl)
+-- a page that is kept was given so, and its frame is inside and free
+kept : (a i t : Bool) → (a && (i && not t)) ≡ true → (a ≡ true) × (i ≡ true) × (t ≡ false)
+kept true true false e = (refl, refl, refl)
+kept true true true e = absurd (true≢false (sym e))
+kept true false t e = absurd (true≢false (sym e))
+kept false i t e = absurd (true≢false (sym e))
 
-pub holds_is : (o : Option ℕ) (f : ℕ) → option_eq nat_eq o (Some f) ≡ true → o ≡ Some f
-holds_is None f e = cc
-holds_is (Some g) f e = ap Some (eqb-true g f e)
+has_frame_at : (ps : List Page) (p f : ℕ) → (page_at ps p).present ≡ true → (page_at ps p).frame ≡ f → has_frame ps f ≡ true
+has_frame_at [] p f here e = absurd (true≢false (sym here))
+has_frame_at (q ∷ qs) zero f here e = or_left _ _ (and_from _ _ here (eq-eqb q.frame f e))
+has_frame_at (q ∷ qs) (suc p) f here e = or_right _ _ (has_frame_at qs p f here e)
 
-holds_from : (o : Option ℕ) (f : ℕ) → o ≡ Some f → option_eq nat_eq o (Some f) ≡ true
-holds_from o f e = rw e (eq-eqb f f refl)
-
--- a frame that is kept is the one given, and is free
-kept : (n : ℕ) (lower : List Page) (o : Option ℕ) (f : ℕ) → settled_frame n lower o ≡ Some f → (o ≡ Some f) × (is_free n lower f ≡ true)
-kept n lower None f e = cc
-kept n lower (Some g) f e = go (is_free n lower g) refl e
-  where
-    go : (b : Bool) → is_free n lower g ≡ b → then_some b g ≡ Some f → (Some g ≡ Some f) × (is_free n lower f ≡ true)
-    go false h k = cc
-    go true h k = let same : g ≡ f = cc in (k, rw same at h)
-
-has_frame_at : (ps : List Page) (p f : ℕ) → (page_at ps p).frame ≡ Some f → has_frame ps f ≡ true
-has_frame_at [] p f e = cc
-has_frame_at (q ∷ qs) zero f e = or_left _ _ (holds_from q.frame f e)
-has_frame_at (q ∷ qs) (suc p) f e = or_right _ _ (has_frame_at qs p f e)
-
-none_has_frame : (ps : List Page) (f : ℕ) → ((q : ℕ) → (page_at ps q).frame ≢ Some f) → has_frame ps f ≡ false
+none_has_frame : (ps : List Page) (f : ℕ) → ((q : ℕ) → (page_at ps q).present ≡ true → (page_at ps q).frame ≢ f) → has_frame ps f ≡ false
 none_has_frame [] f h = refl
 none_has_frame (r ∷ rs) f h =
-    or_from _ _ (false_from_ne_true _ (λ e. h 0 (holds_is r.frame f e))) (none_has_frame rs f (λ q. h (suc q)))
+    or_from _ _
+    (false_from_ne_true _ (λ e. let parts = and_parts r.present (r.frame == f) e in h 0 parts.0 (eqb-true r.frame f parts.1)))
+    (none_has_frame rs f (λ q. h (suc q)))
 
 module _ (n : ℕ) (given : List Page) where
   past_end : (k p : ℕ) → k ≤ p → page_at (settled n given k) p ≡ no_page
   past_end k p l = get_or_past (settled n given k) p no_page (omega (arith, length-settled n given k))
 
-  lower_page : (k p : ℕ) → p < k → k ≤ 64 → page_at (settled n given k) p ≡ page_at (settled n given 64) p
-  lower_page k p l m = page_at-settled n given k p l ∙ sym (page_at-settled n given 64 p (omega arith))
+  lower_page : (m k p : ℕ) → p < k → k ≤ m → page_at (settled n given k) p ≡ page_at (settled n given m) p
+  lower_page m k p l h = page_at-settled n given k p l ∙ sym (page_at-settled n given m p (omega arith))
 
-  -- a page of the table that has a frame was given with it, and it is free there
-  stands : (k p f : ℕ) → (page_at (settled n given k) p).frame ≡ Some f
-      → (p < k) × ((page_at given p).frame ≡ Some f) × (is_free n (settled n given p) f ≡ true)
-  stands k p f e =
+  same_frame : (k p : ℕ) → p < k → (page_at (settled n given k) p).frame ≡ (page_at given p).frame
+  same_frame k p l = ap (λ (q : Page). q.frame) (page_at-settled n given k p l)
+
+  -- a page of the table that is present was given so, and its frame is inside and free there
+  stands : (k p : ℕ) → (page_at (settled n given k) p).present ≡ true
+      → (p < k) × ((page_at given p).present ≡ true) × (is_inside n (page_at given p).frame ≡ true)
+      × (has_frame (settled n given p) (page_at given p).frame ≡ false)
+  stands k p e =
       elim (cases_lt p k) [
-        | inl l ↦ let r = kept n (settled n given p) (page_at given p).frame f (sym (ap (λ (q : Page). q.frame) (page_at-settled n given k p l)) ∙ e) in (l, r.0, r.1)
-        | inr l ↦ let none : None ≡ Some f = sym (ap (λ (q : Page). q.frame) (past_end k p l)) ∙ e in cc
+        | inl l ↦ let r = kept _ _ _ (sym (ap (λ (q : Page). q.present) (page_at-settled n given k p l)) ∙ e) in (l, r.0, r.1, r.2)
+        | inr l ↦ absurd (true≢false (sym e ∙ ap (λ (q : Page). q.present) (past_end k p l)))
       ]
 
-  pub settled_inside : FramesInside n (settled n given 64)
-  settled_inside p f e = leb-true (256 * f + 256) n (and_parts (is_inside n f) _ (stands 64 p f e).2).0
+  pub settled_inside : (k : ℕ) → FramesInside n (settled n given k)
+  settled_inside k p here =
+      let s = stands k p here in
+      rw (same_frame k p s.0) (leb-true (256 * (page_at given p).frame + 256) n s.2)
 
-  distinct : (p q f : ℕ) → q < p → (new_page n given p).frame ≡ Some f → (new_page n given q).frame ≢ Some f
-  distinct p q f l here there =
-      let s = stands 64 p f here in
-      let low = has_frame_at (settled n given p) q f (ap (λ (r : Page). r.frame) (lower_page p q l (omega (arith, s.0))) ∙ there) in
-      let free = (and_parts (is_inside n f) (not (has_frame (settled n given p) f)) s.2).1 in
-      absurd (cc)
+  distinct : (k p q : ℕ) → q < p → (page_at (settled n given k) p).present ≡ true → (page_at (settled n given k) q).present ≡ true
+      → (page_at (settled n given k) q).frame ≢ (page_at (settled n given k) p).frame
+  distinct k p q l here there e =
+      let s = stands k p here in
+      let low = lower_page k p q l (omega (arith, s.0)) in
+      let has = has_frame_at (settled n given p) q (page_at given p).frame
+      (ap (λ (r : Page). r.present) low ∙ there)
+      (ap (λ (r : Page). r.frame) low ∙ e ∙ same_frame k p s.0) in
+      true≢false (sym has ∙ s.3)
 
-  pub settled_apart : FramesApart (settled n given 64)
-  settled_apart p q f here there =
+  pub settled_apart : (k : ℕ) → FramesApart (settled n given k)
+  settled_apart k p q here there e =
       elim (cases_order p q) [
-        | inl e ↦ e
-        | inr r ↦ elim r [ inl l ↦ absurd (distinct q p f l there here) | inr l ↦ absurd (distinct p q f l here there) ]
+        | inl same ↦ same
+        | inr r ↦ elim r [ inl l ↦ absurd (distinct k q p l there here e) | inr l ↦ absurd (distinct k p q l here there (sym e)) ]
       ]
 
-  -- a page that is present has the frame given
-  same_frame : (p : ℕ) → is_present (new_page n given p) ≡ true → (new_page n given p).frame ≡ (page_at given p).frame
-  same_frame p here = let f = some_of (new_page n given p).frame here in f.1 ∙ sym (stands 64 p f.0 f.1).1
-
-  free_above : (p f : ℕ) → p < 64 → ((q : ℕ) → q < p → is_present (new_page n given q) ≡ true → (page_at given q).frame ≢ Some f)
-      → has_frame (settled n given p) f ≡ false
-  free_above p f l none = none_has_frame (settled n given p) f (λ q e.
-      let s = stands p q f e in
-      let same = ap (λ (r : Page). r.frame) (lower_page p q s.0 (omega arith)) in
-      none q s.0 (ap is_some (sym same ∙ e)) s.1)
+  free_above : (p : ℕ) → p < 64 → ((q : ℕ) → q < p → (new_page n given q).present ≡ true → (page_at given q).frame ≢ (page_at given p).frame)
+      → has_frame (settled n given p) (page_at given p).frame ≡ false
+  free_above p l none = none_has_frame (settled n given p) (page_at given p).frame (λ q here e.
+      let s = stands p q here in
+      let same = ap (λ (r : Page). r.present) (lower_page 64 p q s.0 (omega arith)) in
+      none q s.0 (sym same ∙ here) (sym (same_frame p q s.0) ∙ e))
 
   pub settles_pages : SettlesPages n given
   settles_pages = record {
-    marked = λ p here. ap is_some (sym (same_frame p here)) ∙ here;
-    inside = λ p f here e. settled_inside p f (same_frame p here ∙ e);
+    marked = λ p here. (stands 64 p here).1;
+    inside = λ p here. leb-true (256 * (page_at given p).frame + 256) n (stands 64 p here).2;
     alone = λ p q l here there e.
-        let f = some_of (new_page n given p).frame here in
-        distinct p q f.0 l f.1 (same_frame q there ∙ e ∙ sym (same_frame p here) ∙ f.1);
-    present = λ p f l given_so inside none.
-        let free = and_from _ _ (le-leb (256 * f + 256) n inside) (ap not (free_above p f l none)) in
-        ap is_present (page_at-settled n given 64 p l) ∙ ap (λ o. is_some (settled_frame n (settled n given p) o)) given_so ∙ ap (λ b. is_some (then_some b f)) free;
-    frame = λ p. by_presence (new_page n given p).frame (page_at given p).frame (same_frame p);
+        distinct 64 p q l here there (same_frame 64 q (stands 64 q there).0 ∙ e ∙ sym (same_frame 64 p (stands 64 p here).0));
+    present = λ p l given_so inside none.
+        ap (λ (q : Page). q.present) (page_at-settled n given 64 p l)
+        ∙ and_from _ _ given_so (and_from _ _ (le-leb (256 * (page_at given p).frame + 256) n inside) (ap not (free_above p l none)));
+    frame = λ p l. same_frame 64 p l;
     writable = λ p l. ap (λ (q : Page). q.writable) (page_at-settled n given 64 p l);
-    no_more = λ p l. ap is_present (past_end 64 p l);
+    no_more = λ p l. ap (λ (q : Page). q.present) (past_end 64 p l);
   }
-    where
-      by_presence : (o g : Option ℕ) → (is_some o ≡ true → o ≡ g) → o ≡ cond (is_some o) g None
-      by_presence None g h = refl
-      by_presence (Some f) g h = h refl

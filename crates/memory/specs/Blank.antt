@@ -5,7 +5,7 @@ use Rattle.std.proofs.lemmas.Nat.{shr-shr}
 use Rattle.memory.specs.declared.page.Page.{Page}
 use Rattle.memory.specs.Access.{granule}
 use Rattle.memory.specs.Flat.{flat_meaning, is_whole}
-use Rattle.memory.specs.Pages.{is_present, is_window, page_at, paged_meaning, place_in}
+use Rattle.memory.specs.Pages.{is_window, page_at, paged_meaning, place_in}
 
 no_value : (has : Bool) (n : ℕ) → (has && not false) ≡ false → cond has n 0 ≡ 0
 no_value true n e = ap (λ b. cond b n 0) e
@@ -27,4 +27,4 @@ pub paged_blank : (ps : List Page) (win : Option ℕ) (bs ws : List ℕ) (a : �
 unfolding paged_meaning
 paged_blank ps win bs ws a e =
     let byte = slice_index bs (place_in ps a) in
-    ap (λ p. cond (is_present (page_at ps p) && not (is_window win (granule a))) byte 0) (page_of_granule a) ∙ ap (λ b. cond b byte 0) e
+    ap (λ p. cond ((page_at ps p).present && not (is_window win (granule a))) byte 0) (page_of_granule a) ∙ ap (λ b. cond b byte 0) e

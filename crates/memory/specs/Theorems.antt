@@ -1,12 +1,12 @@
 -- The rules of an access in their own words, over every meaning, address and width; and which pages a new memory has.
-use Rattle.std.specs.Prelude.{◌≡◌, ℕ, ◌+◌, ◌-◌, ◌*◌, ◌%◌, ◌^◌, ◌<◌, ◌≤◌, true, false, cond, ◌&&◌, List, ◌∷◌, Some, None, Ok, Err, Option, Result, ◌≢◌}
+use Rattle.std.specs.Prelude.{◌≡◌, ℕ, ◌+◌, ◌-◌, ◌*◌, ◌%◌, ◌^◌, ◌<◌, ◌≤◌, true, false, ◌&&◌, List, ◌∷◌, Some, None, Ok, Err, Option, Result, ◌≢◌}
 use Rattle.memory.specs.declared.fault.Fault.{Fault}
 use Rattle.memory.specs.declared.page.Page.{Page}
 use Rattle.memory.specs.Access.{granule, within}
 use Rattle.memory.specs.Bytes.{byte_of, number_at}
 use Rattle.memory.specs.Calls.{peek_answer, read_after, read_answer, write_after, write_answer}
 use Rattle.memory.specs.Meaning.{Meaning}
-use Rattle.memory.specs.Pages.{is_present, page_at, settled}
+use Rattle.memory.specs.Pages.{page_at, settled}
 
 -- peek answers the number exactly when read would neither fault nor touch a window
 pub record PeeksExactly : Type 0 where
@@ -106,20 +106,14 @@ new_page n given p = page_at (settled n given 64) p
 -- the pages of a new memory over n bytes: page p is present exactly when it was given so, its frame lies wholly inside the
 -- bytes, and no lower present page has that frame
 pub record SettlesPages (n : ℕ) (given : List Page) : Type 0 where
-  pub marked : (p : ℕ) → is_present (new_page n given p) ≡ true
-      → is_present (page_at given p) ≡ true
-  pub inside : (p f : ℕ) → is_present (new_page n given p) ≡ true
-      → (page_at given p).frame ≡ Some f → 256 * f + 256 ≤ n
-  pub alone : (p q : ℕ) → q < p
-      → is_present (new_page n given p) ≡ true → is_present (new_page n given q) ≡ true
+  pub marked : (p : ℕ) → (new_page n given p).present ≡ true → (page_at given p).present ≡ true
+  pub inside : (p : ℕ) → (new_page n given p).present ≡ true → 256 * (page_at given p).frame + 256 ≤ n
+  pub alone : (p q : ℕ) → q < p → (new_page n given p).present ≡ true → (new_page n given q).present ≡ true
       → (page_at given q).frame ≢ (page_at given p).frame
-  pub present : (p f : ℕ) → p < 64 → (page_at given p).frame ≡ Some f → 256 * f + 256 ≤ n
-      → ((q : ℕ) → q < p → is_present (new_page n given q) ≡ true
-      → (page_at given q).frame ≢ Some f)
-      → is_present (new_page n given p) ≡ true
-  -- a present page has the frame that it was given with, and any other has none
-  pub frame : (p : ℕ) → (new_page n given p).frame
-      ≡ cond (is_present (new_page n given p)) (page_at given p).frame None
-  -- its other mark is as it was given, and there are 64
+  pub present : (p : ℕ) → p < 64 → (page_at given p).present ≡ true → 256 * (page_at given p).frame + 256 ≤ n
+      → ((q : ℕ) → q < p → (new_page n given q).present ≡ true → (page_at given q).frame ≢ (page_at given p).frame)
+      → (new_page n given p).present ≡ true
+  -- its other marks are as they were given, and there are 64
+  pub frame : (p : ℕ) → p < 64 → (new_page n given p).frame ≡ (page_at given p).frame
   pub writable : (p : ℕ) → p < 64 → (new_page n given p).writable ≡ (page_at given p).writable
-  pub no_more : (p : ℕ) → 64 ≤ p → is_present (new_page n given p) ≡ false
+  pub no_more : (p : ℕ) → 64 ≤ p → (new_page n given p).present ≡ false

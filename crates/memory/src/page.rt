@@ -1,31 +1,42 @@
 // The pages of a paged memory, and what becomes of them when it is made.
 ghost use Rattle.std.specs.Prelude.{◌≡◌};
-ghost use Rattle.memory.specs.Pages.{has_frame, is_inside, page_at, settled, settled_page};
+ghost use Rattle.memory.specs.Pages.{has_frame, holds_frame, is_inside, page_at, settled, settled_page};
 
 pub const PAGES: usize = 64;
 
 // The bytes of a page, and of a frame.
 pub const PAGE_SIZE: u32 = 256;
 
+// A mark beside a number, as the rules have it: by a frame that may be there or not, which was tried, a page takes 12 bytes in
+// place of 8, and a write 1.4 times the time.
 #[derive(Clone, Copy, PartialEq, Eq, Debug)]
 pub struct Page {
+    pub present: bool,
     pub writable: bool,
-    // frame F is bytes 256 F to 256 F + 255 of the caller's; a page without a frame is absent
-    pub frame: Option<u32>,
+    // frame F is bytes 256 F to 256 F + 255 of the caller's
+    pub frame: u32,
 }
 
 impl Page {
     pub const ABSENT: Page = Page {
+        present: false,
         writable: false,
-        frame: None,
+        frame: 0,
     };
+
+    // Whether the page is present and has this frame.
+    fn holds(&self, frame: u32) -> bool
+        ensures { result ≡ holds_frame frame self.now }
+    {
+        self.present && self.frame == frame
+    }
 }
 
-// Whether one of these pages has this frame.
+// Whether one of these pages is present and has this frame.
 fn has_frame(pages: &[Page], frame: u32) -> bool
     ensures { result ≡ has_frame pages.now frame }
 {
-    pages.iter().any(|page| page.frame == Some(frame))
+    pages.iter().any(|page| page.holds(frame))
 }
 
 // Whether the frame lies wholly inside `size` bytes.
@@ -35,13 +46,15 @@ fn is_inside(frame: u32, size: usize) -> bool
     PAGE_SIZE as usize * frame as usize + PAGE_SIZE as usize <= size
 }
 
-// The page given, over `size` bytes and above the `lower` pages: it keeps its frame only where that lies wholly inside and
-// is no lower page's.
+// The page given, over `size` bytes and above the `lower` pages: present only where its frame lies wholly inside and is no
+// lower present page's.
 fn settle_page(page: Page, lower: &[Page], size: usize) -> Page
     ensures { result ≡ settled_page size lower.now page }
 {
-    let frame = page.frame.filter(|&frame| is_inside(frame, size) && !has_frame(lower, frame));
-    Page { frame, ..page }
+    Page {
+        present: page.present && is_inside(page.frame, size) && !has_frame(lower, page.frame),
+        ..page
+    }
 }
 
 // The page at this place, absent where there is none.

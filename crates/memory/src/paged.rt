@@ -12,7 +12,7 @@ use std::collections::VecDeque;
 #[derive(PartialEq, Eq, Debug, Drop)]
 pub struct PagedMemory {
     bytes: Vec<u8>,
-    // settled: a page whose frame cannot be used has none here
+    // settled: a page whose frame cannot be used is absent here
     pages: [Page; PAGES],
     // the window's granule
     window: Option<u32>,

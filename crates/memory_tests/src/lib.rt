@@ -154,8 +154,9 @@ mod tests {
 
     const fn page(frame: u32) -> Page {
         Page {
+            present: true,
             writable: true,
-            frame: Some(frame),
+            frame,
         }
     }
 

@@ -48,7 +48,7 @@ impl PagedMemory {
     {
         let page = self.page(x);
         Marks {
-            present: page.frame.is_some(),
+            present: page.present,
             writable: page.writable,
             window: self.is_window(x),
             waiting: !self.waiting.is_empty(),
@@ -59,9 +59,7 @@ impl PagedMemory {
     fn place(&self, x: u32) -> usize
         ensures { result ≡ place_in self.now.pages x }
     {
-        // nothing is looked up where the page is absent
-        let frame = self.page(x).frame.unwrap_or(0);
-        PAGE_SIZE as usize * frame as usize + (x % PAGE_SIZE) as usize
+        PAGE_SIZE as usize * self.page(x).frame as usize + (x % PAGE_SIZE) as usize
     }
 }
 
