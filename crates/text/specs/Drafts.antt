@@ -4,6 +4,7 @@ use Rattle.std.specs.Option.{option_and_then}
 use Rattle.text.specs.declared.drafts.Drafted.{Drafted}
 use Rattle.text.specs.declared.drafts.Drafts.{Drafts}
 use Rattle.text.specs.declared.labels.Labels.{Labels}
+use Rattle.text.specs.declared.labels.Mark.{Mark}
 use Rattle.text.specs.declared.statement.Draft.{Draft}
 use Rattle.text.specs.declared.statement.Draft.TheVariants.{Word, Branch}
 use Rattle.text.specs.Forms.{word_for}
@@ -40,6 +41,10 @@ pub record Grown (old new : Drafts) : Type 0 where
   pub most : new.most ≡ old.most
   pub at_least : vec_len old.items ≤ vec_len new.items
   pub at_most : vec_len new.items ≤ vec_len old.items + 1
+
+-- where the labels of a line stand: at the place of the next instruction
+abbrev pub next_mark : Drafts → ℕ → Mark
+next_mark drafts line = record { place = vec_len drafts.items; line = line }
 
 -- the same program
 pub record IsUnchanged (old new : Drafts) : Type 0 where

@@ -1,6 +1,7 @@
 // Programs from their lines: one pass that drafts each instruction, then the places of the labels.
 ghost use Rattle.std.specs.Prelude.{◌≡◌, ◌≤◌, IfOk, IfErr, vec_len, OnOk, OnErr};
-ghost use Rattle.text.specs.Drafts.{AllBecome, Grown, IsUnchanged};
+ghost use Rattle.text.specs.Drafts.{AllBecome, Grown, IsUnchanged, next_mark};
+ghost use Rattle.text.specs.Marks.{OnlyAdds};
 
 use crate::drafts::Drafts;
 use crate::labels::{Labels, Mark};
@@ -38,6 +39,7 @@ impl<'a> Assembler<'a> {
         ensures ok { OnOk result (Grown self.old.drafts self.new.drafts) }
         ensures err { OnErr result (IsUnchanged self.old.drafts self.new.drafts) }
         ensures named { IfErr result (λ e. e.line ≡ number) }
+        ensures marks { OnlyAdds self.old.labels self.new.labels (next_mark self.old.drafts number) }
     {
         self.read(number, text).map_err(|problem| TextError {
             line: number,
@@ -48,6 +50,7 @@ impl<'a> Assembler<'a> {
     fn read(&mut self, number: usize, text: &'a str) -> Result<(), Problem<'a>>
         ensures ok { OnOk result (Grown self.old.drafts self.new.drafts) }
         ensures err { OnErr result (IsUnchanged self.old.drafts self.new.drafts) }
+        ensures marks { OnlyAdds self.old.labels self.new.labels (next_mark self.old.drafts number) }
     {
         let words = words_of(self.alloc, text)?;
         let mark = self.next_mark(number);
