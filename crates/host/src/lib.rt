@@ -9,12 +9,15 @@ use isa::codec::unpack;
 use isa::fields::Fields;
 
 // Writes the values over the front of the slice, as many as it has room for.
-#[tactic(auto, using(crate::proofs::Fronts::over_front))]
+#[tactic(auto, using(crate::proofs::Fronts::over_front, crate::proofs::Fronts::over_none))]
 fn fill(slice: &mut [u64], values: &[u64])
     ensures { slice.new ≡ over values.now slice.old }
 {
     let count = slice.len().min(values.len());
-    slice[..count].copy_from_slice(&values[..count]);
+    // no copy is called for where a caller only asks whether a word is an instruction
+    if count > 0 {
+        slice[..count].copy_from_slice(&values[..count]);
+    }
 }
 
 // Answers 0 and writes kind, width, d, a, b, home and imm into `fields`, as many as it has room for; or answers the

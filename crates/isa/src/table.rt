@@ -40,11 +40,15 @@ impl Span {
     }
 }
 
-// x is outside the span of its field; a field that the kind does not use holds 0.
+// The numbers of a field that its kind does not use.
+const ZERO: Span = Span { low: 0, high: 0 };
+
+// x is outside the span of its field; a field that the kind does not use holds 0. (By one test for both: a test of its own
+// for a field without a span takes a fifth more of unpacking.)
 fn outside(field: Option<Span>, x: u64) -> bool
     ensures { result ≡ outside field x }
 {
-    field.map_or(x > 0, |span| span.leaves_out(x))
+    field.unwrap_or(ZERO).leaves_out(x)
 }
 
 // The kind uses the field, and x is outside its span.

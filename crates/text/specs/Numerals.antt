@@ -1,5 +1,5 @@
 -- The number that digits write in a base, and what a 64-bit reader answers of it.
-use Rattle.std.specs.Prelude.{ℕ, ◌^◌, Bool, if◌then◌else◌, ◌&&◌, List, length, Some, None, Ok, Err, codes, Option, Result, nat_lt}
+use Rattle.std.specs.Prelude.{ℕ, ◌^◌, Bool, false, if◌then◌else◌, ◌&&◌, List, [], ◌∷◌, length, Some, None, Ok, Err, codes, Option, Result, nat_lt}
 use Rattle.std.specs.Char.{is_digit}
 use Rattle.std.specs.List.{list_all}
 use Rattle.std.specs.Option.{option_map_or}
@@ -7,6 +7,10 @@ use Rattle.std.specs.Str.Parse.{digits_value}
 use Rattle.text.specs.declared.numeral.Misread.{Misread}
 use Rattle.text.specs.declared.numeral.Misread.TheVariants.{NoNumber, TooLarge}
 use Rattle.text.specs.Texts.{strip_prefix}
+
+abbrev pub begins_with_digit : ℕ → List ℕ → Bool
+begins_with_digit radix [] = false
+begins_with_digit radix (c ∷ cs) = is_digit c radix
 
 -- one or more digits of the base
 abbrev pub is_numeral : ℕ → List ℕ → Bool
@@ -28,6 +32,10 @@ number_in bs = option_map_or (numeral_in 16) (hex_digits bs) (numeral_in 10 bs)
 abbrev pub capped : Option ℕ → Result ℕ Misread
 capped None = Err NoNumber
 capped (Some n) = if nat_lt n (2 ^ 64) then Ok n else Err TooLarge
+
+-- why a text that gives no number of 64 bits gives none: its digits write a larger one, or it is no numeral
+abbrev pub misread_of : ℕ → List ℕ → Misread
+misread_of radix bs = if is_numeral radix bs then TooLarge else NoNumber
 
 -- a problem for each way to misread
 abbrev pub told : {P : Type 0} → Misread → P → P → P
