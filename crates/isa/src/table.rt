@@ -43,8 +43,8 @@ impl Span {
 // The numbers of a field that its kind does not use.
 const ZERO: Span = Span { low: 0, high: 0 };
 
-// x is outside the span of its field; a field that the kind does not use holds 0. (By one test for both: a test of its own
-// for a field without a span takes a fifth more of unpacking.)
+// x is outside the span of its field; a field that the kind does not use holds 0. (By one test for both: with a test of its
+// own for a field without a span, unpacking takes a tenth more instructions.)
 fn outside(field: Option<Span>, x: u64) -> bool
     ensures { result ≡ outside field x }
 {
